@@ -1,0 +1,4 @@
+pub mod Branches
+pub mod Places
+pub mod Same
+pub mod Finding

@@ -1,0 +1,123 @@
+// Bytes by themselves: digits, letters, equality of two texts.
+ghost use mathlib.Core.Path.{_≡_};
+ghost use mathlib.Core.Bool.{_||_};
+ghost use Prim.Native.Nat.{min, _+_, _≤_};
+ghost use lib.ListN.{length, getD, drop};
+ghost use Rattle.text.specs.Bytes.{between, digit, letter, part, same, holds, before};
+
+// Is the byte from low to high?
+fn is_between(low: u8, high: u8, b: u8) -> bool
+    ensures { λ r. ⌜ r ≡ between low high b ⌝ }
+{
+    low <= b && b <= high
+}
+
+// Is the byte 0 to 9?
+pub fn is_digit(b: u8) -> bool
+    ensures { λ r. ⌜ r ≡ digit b ⌝ }
+{
+    is_between(b'0', b'9', b)
+}
+
+// Is the byte A to Z or a to z?
+pub fn is_letter(b: u8) -> bool
+    ensures { λ r. ⌜ r ≡ letter b ⌝ }
+{
+    is_between(b'A', b'Z', b) || is_between(b'a', b'z', b)
+}
+
+// The byte at a place, 0 past the end.
+pub fn byte_at(s: &[u8], i: usize) -> u8
+    ensures { λ r. ⌜ r ≡ getD (now (s .entry)) i 0 ⌝ }
+{
+    if i < s.len() { s[i] } else { 0 }
+}
+
+// The smaller of two numbers.
+fn smaller(a: usize, b: usize) -> usize
+    ensures { λ r. ⌜ r ≡ min a b ⌝ }
+{
+    if a <= b { a } else { b }
+}
+
+// The bytes from a up to e, as far as there are any.
+pub fn slice(s: &[u8], a: usize, e: usize) -> &[u8]
+    ensures { λ r. ⌜ now r ≡ part a e (now (s .entry)) ⌝ }
+{
+    let n = s.len();
+    let end = smaller(e, n);
+    if end <= a {
+        return &s[n..n];
+    }
+    &s[a..end]
+}
+
+// Do two texts have the same bytes?
+pub fn equal(a: &[u8], b: &[u8]) -> bool
+    ensures { λ r. ⌜ r ≡ same (now (a .entry)) (now (b .entry)) ⌝ }
+{
+    if a.len() != b.len() {
+        return false;
+    }
+    let mut i = 0;
+    while i < a.len() {
+        if a[i] != b[i] {
+            return false;
+        }
+        i += 1;
+    }
+    true
+}
+
+// Is one of them true?
+fn either(a: bool, b: bool) -> bool
+    ensures { λ r. ⌜ r ≡ (a || b) ⌝ }
+{
+    a | b
+}
+
+// Does a byte stand in a text? The loop has no early exit, so that many bytes can be compared at once.
+pub fn has_byte(s: &[u8], b: u8) -> bool
+    ensures { λ r. ⌜ r ≡ holds b (now (s .entry)) ⌝ }
+{
+    let mut found = false;
+    let mut i = 0;
+    while i < s.len() {
+        found = either(found, s[i] == b);
+        i += 1;
+    }
+    found
+}
+
+// A place from which on b comes next where it comes next from the given place, past all blocks of 32 bytes without it.
+fn skip_blocks(s: &[u8], b: u8, from: usize) -> usize
+    requires { ⌜ from ≤ length (now s) ⌝ }
+    ensures { λ r. ⌜ (r ≤ length (now (s .entry))) × (r + before b (drop r (now (s .entry))) ≡ from + before b (drop from (now (s .entry)))) ⌝ }
+{
+    let mut i = from;
+    while 32 <= s.len() - i {
+        let end = i + 32;
+        if has_byte(&s[i..end], b) {
+            return i;
+        }
+        i = end;
+    }
+    i
+}
+
+// Where b comes next from a place on, or the end of the text.
+pub fn find(s: &[u8], b: u8, from: usize) -> usize
+    ensures { λ r. ⌜ r ≡ from + before b (drop from (now (s .entry))) ⌝ }
+{
+    if s.len() <= from {
+        return from;
+    }
+    let mut i = skip_blocks(s, b, from);
+    while i < s.len() {
+        if s[i] == b {
+            return i;
+        }
+        i += 1;
+    }
+    i
+}

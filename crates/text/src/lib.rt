@@ -1,0 +1,2 @@
+// Texts as lists of bytes: UTF-8, digits and numbers, fields at a separator, lines at CR LF.
+pub mod bytes;
