@@ -1,4 +1,5 @@
 pub mod Branches
 pub mod Places
 pub mod Same
+pub mod Digits
 pub mod Finding

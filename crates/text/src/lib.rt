@@ -1,2 +1,3 @@
 // Texts as lists of bytes: UTF-8, digits and numbers, fields at a separator, lines at CR LF.
 pub mod bytes;
+pub mod number;
