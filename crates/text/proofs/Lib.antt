@@ -5,3 +5,5 @@ pub mod Digits
 pub mod Finding
 pub mod Cuts
 pub mod FieldsByCuts
+pub mod LineEnds
+pub mod Examples
