@@ -71,3 +71,8 @@ and-right false u h = cc
 pub cond-either : {A : Type 0} (P : A → Type 0) (t : Bool) (a b : A) → (t ≡ true → P a) → (t ≡ false → P b) → P (cond t a b)
 cond-either P true a b f g = f refl
 cond-either P false a b f g = g refl
+
+-- what follows from a test that holds and from one that does not, follows
+pub either-way : {A : Type 0} (t : Bool) → (t ≡ true → A) → (t ≡ false → A) → A
+either-way true f g = f refl
+either-way false f g = g refl

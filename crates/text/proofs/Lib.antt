@@ -6,4 +6,10 @@ pub mod Finding
 pub mod Cuts
 pub mod FieldsByCuts
 pub mod LineEnds
+pub mod Utf8Laws
+pub mod Utf8Places
+pub mod Utf8Written
+pub mod Utf8Read
+pub mod Utf8Counting
 pub mod Examples
+pub mod Utf8Examples

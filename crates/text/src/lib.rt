@@ -3,3 +3,4 @@ pub mod bytes;
 pub mod fields;
 pub mod lines;
 pub mod number;
+pub mod utf8;
