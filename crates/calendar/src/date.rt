@@ -4,7 +4,7 @@ ghost use mathlib.Core.Bool.{true, cond, _&&_, _||_};
 ghost use Prim.Native.Nat.{_+_, _-_, _<_};
 ghost use lib.Dec.{leb, eqb};
 ghost use Rattle.calendar.specs.Calendar.{leap, monthLength, real, daysOfMonths, daysOfYears, dayNumber, daysApart, inWindow};
-ghost use Rattle.calendar.specs.Reading.{dateOf, dateOfDigits};
+ghost use Rattle.calendar.specs.Reading.{dateOf, dateOfDigits, dateInWindow};
 use text::number::Number;
 use text::number::is_between;
 
@@ -168,4 +168,14 @@ pub fn is_in_window(date: Date, today: Date, before: u64, after: u64) -> bool
         return is_near(number_of_real(today), number_of_real(date), before, after);
     }
     false
+}
+
+// Is what was read a date from `before` days before to `after` days after today?
+pub fn read_in_window(read: DateRead, today: Date, before: u64, after: u64) -> bool
+    ensures { λ r. ⌜ r ≡ dateInWindow before after today read ⌝ }
+{
+    match read {
+        DateRead::Real(date) => is_in_window(date, today, before, after),
+        DateRead::NotReal => false,
+    }
 }

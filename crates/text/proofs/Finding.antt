@@ -1,4 +1,4 @@
--- A byte looked for in a text, from a place on.
+-- A byte looked for in a text, and letters and digits passed, from a place on.
 -- Assumes nothing.
 use mathlib.Core.Path.{_≡_, refl, sym, _∙_, ap}
 use mathlib.Core.Bool.{Bool, true, false, cond, _||_}
@@ -10,7 +10,7 @@ use borrow.Author.Tests.{eq-eqb, ne-eqb, eqb-true}
 use lib.Dec.{eqb}
 use lib.ListN.{length, getD, drop, take, drop-of-length-le, length-drop}
 use lib.Seq.{drop-drop, getD-drop}
-use Rattle.text.specs.Bytes.{holds, before, part}
+use Rattle.text.specs.Bytes.{letterOrDigit, lettersOrDigits, holds, before, part}
 use Rattle.text.proofs.Places.{from-here}
 
 -- found so far, or held by what is left
@@ -89,3 +89,17 @@ module _ (b : ℕ) where
     pub find-stands : i + before b (drop i s) < length s → getD s (i + before b (drop i s)) 0 ≡ b
     find-stands h =
         sym (getD-drop i s (before b (drop i s)) 0) ∙ before-found (drop i s) (omega (arith, length-drop i s))
+
+-- letters and digits, passed one by one
+module _ (s : List ℕ) (i : ℕ) where
+  pub letters-on : i < length s → letterOrDigit (getD s i 0) ≡ true → lettersOrDigits (drop i s) ≡ lettersOrDigits (drop (i + 1) s)
+  unfolding lettersOrDigits
+  letters-on h e = rw (from-here s i h) (rw e)
+
+  pub letters-not : i < length s → letterOrDigit (getD s i 0) ≡ false → lettersOrDigits (drop i s) ≡ false
+  unfolding lettersOrDigits
+  letters-not h e = rw (from-here s i h) (rw e)
+
+  pub letters-end : length s ≤ i → lettersOrDigits (drop i s) ≡ true
+  unfolding lettersOrDigits
+  letters-end h = rw (drop-of-length-le s h)

@@ -17,6 +17,13 @@ digit b = between 0x30 0x39 b
 unfoldable pub letter : ℕ → Bool
 letter b = between 0x41 0x5A b || between 0x61 0x7A b
 
+unfoldable pub letterOrDigit : ℕ → Bool
+letterOrDigit b = letter b || digit b
+
+unfoldable pub lettersOrDigits : List ℕ → Bool
+lettersOrDigits [] = true
+lettersOrDigits (b ∷ s) = letterOrDigit b && lettersOrDigits s
+
 -- the bytes from place a up to place e, as far as there are any
 abbrev pub part : ℕ → ℕ → List ℕ → List ℕ
 part a e s = take (e - a) (drop a s)

@@ -1,5 +1,5 @@
 -- A run of digits as a number.
-use mathlib.Core.Bool.{Bool, cond, _&&_}
+use mathlib.Core.Bool.{Bool, true, false, cond, _&&_}
 use mathlib.Core.List.{List, [], _∷_}
 use Prim.Native.Nat.{ℕ, _+_, _*_, _-_, _<_}
 use lib.Dec.{leb}
@@ -17,6 +17,15 @@ numberAfter n (b ∷ s) = cond (digit b) (numberAfter (n * 10 + (b - 0x30)) s) N
 -- No more than 18 digits are read, whatever `most` says, so that each number fits 64 bits.
 unfoldable pub number : ℕ → ℕ → List ℕ → Number
 number least most s = cond (between least most (length s) && leb (length s) 18) (numberAfter 0 s) Not
+
+unfoldable pub isNumber : Number → Bool
+isNumber (Of n) = true
+isNumber Not = false
+
+-- The number, 0 where there is none.
+unfoldable pub valueOf : Number → ℕ
+valueOf (Of n) = n
+valueOf Not = 0
 
 -- If it is a number at all, it is below the bound.
 abbrev pub Below : ℕ → Number → Type 0

@@ -3,7 +3,7 @@ ghost use mathlib.Core.Path.{_≡_};
 ghost use mathlib.Core.Bool.{_||_};
 ghost use Prim.Native.Nat.{min, _+_, _≤_};
 ghost use lib.ListN.{length, getD, drop};
-ghost use Rattle.text.specs.Bytes.{between, digit, letter, part, same, holds, before};
+ghost use Rattle.text.specs.Bytes.{between, digit, letter, letterOrDigit, lettersOrDigits, part, same, holds, before};
 
 // Is the byte from low to high?
 fn is_between(low: u8, high: u8, b: u8) -> bool
@@ -24,6 +24,27 @@ pub fn is_letter(b: u8) -> bool
     ensures { λ r. ⌜ r ≡ letter b ⌝ }
 {
     is_between(b'A', b'Z', b) || is_between(b'a', b'z', b)
+}
+
+// Is the byte a letter or a digit?
+pub fn is_letter_or_digit(b: u8) -> bool
+    ensures { λ r. ⌜ r ≡ letterOrDigit b ⌝ }
+{
+    is_letter(b) || is_digit(b)
+}
+
+// Are all bytes letters or digits?
+pub fn are_letters_or_digits(s: &[u8]) -> bool
+    ensures { λ r. ⌜ r ≡ lettersOrDigits (now (s .entry)) ⌝ }
+{
+    let mut i = 0;
+    while i < s.len() {
+        if !is_letter_or_digit(s[i]) {
+            return false;
+        }
+        i += 1;
+    }
+    true
 }
 
 // The byte at a place, 0 past the end.

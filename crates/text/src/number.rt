@@ -3,7 +3,7 @@ ghost use mathlib.Core.Path.{_≡_};
 ghost use Prim.Native.Nat.{_^_, _≤_};
 ghost use lib.ListN.{length};
 ghost use Rattle.text.specs.Bytes.{between};
-ghost use Rattle.text.specs.Number.{numberAfter, number, Below};
+ghost use Rattle.text.specs.Number.{numberAfter, number, isNumber, valueOf, Below};
 use crate::bytes::is_digit;
 
 // Is a number from low to high?
@@ -54,4 +54,24 @@ pub fn read(s: &[u8], least: usize, most: usize) -> Number
         return Number::Not;
     }
     digits(s)
+}
+
+// Is there a number?
+pub fn is_number(read: Number) -> bool
+    ensures { λ r. ⌜ r ≡ isNumber read ⌝ }
+{
+    match read {
+        Number::Of(_) => true,
+        Number::Not => false,
+    }
+}
+
+// The number, 0 where there is none.
+pub fn value_of(read: Number) -> u64
+    ensures { λ r. ⌜ r ≡ valueOf read ⌝ }
+{
+    match read {
+        Number::Of(n) => n,
+        Number::Not => 0,
+    }
 }

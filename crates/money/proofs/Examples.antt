@@ -1,0 +1,66 @@
+-- Worked examples of the definitions, each computed.
+-- Assumes nothing.
+use mathlib.Core.Path.{_≡_, refl}
+use mathlib.Core.List.{List, [], _∷_, map}
+use Prim.Native.Nat.{ℕ}
+use Prim.Native.String.{String}
+use Rattle.text.specs.Bytes.{digit}
+use Rattle.text.specs.Quoted.{bytes}
+use Rattle.text.specs.Number.{numberAfter, number}
+use Rattle.money.specs.Money.{amountWithin, feeWithin, orderAmount, orderFee, sumAmount, sumFee}
+use Rattle.money.specs.Text.{together, textOf, orderText, sumText}
+use Rattle.money.specs.declared.AmountRead.{AmountRead}
+use Rattle.money.specs.declared.AmountRead.the-variants.{Is as AmountIs, Not as NoAmount}
+use Rattle.money.specs.declared.FeeRead.{FeeRead}
+use Rattle.money.specs.declared.FeeRead.the-variants.{Is as FeeIs, Not as NoFee}
+
+abbrev orderTexts : List String → List AmountRead
+orderTexts = map (λ s. orderText (bytes s))
+
+abbrev sumTexts : List String → List AmountRead
+sumTexts = map (λ s. sumText (bytes s))
+
+abbrev amount : ℕ → AmountRead
+amount grosze = AmountIs (record { 0 = grosze })
+
+abbrev fee : ℕ → FeeRead
+fee grosze = FeeIs (record { 0 = grosze })
+
+order-texts : orderTexts ("0.00" ∷ "0.01" ∷ "0000001.50" ∷ "9999999.99" ∷ [])
+    ≡ amount 0 ∷ amount 1 ∷ amount 150 ∷ amount 999_999_999 ∷ []
+unfolding textOf together number numberAfter digit
+order-texts = refl
+
+-- No digit before the point, or eight of them; one behind it, or three.
+other-lengths : orderTexts (".50" ∷ "12345678.00" ∷ "1.5" ∷ "1.234" ∷ []) ≡ NoAmount ∷ NoAmount ∷ NoAmount ∷ NoAmount ∷ []
+unfolding textOf together number numberAfter digit
+other-lengths = refl
+
+other-bytes : orderTexts ("1,50" ∷ "-1.00" ∷ "1.0 " ∷ "1 0.00" ∷ []) ≡ NoAmount ∷ NoAmount ∷ NoAmount ∷ NoAmount ∷ []
+unfolding textOf together number numberAfter digit
+other-bytes = refl
+
+too-little : orderTexts ("" ∷ "." ∷ "150" ∷ ".5" ∷ []) ≡ NoAmount ∷ NoAmount ∷ NoAmount ∷ NoAmount ∷ []
+unfolding textOf together number numberAfter digit
+too-little = refl
+
+sum-texts : sumTexts ("00000000000.00" ∷ "99999999999.99" ∷ "000000000000.00" ∷ []) ≡ amount 0 ∷ amount 9_999_999_999_999 ∷ NoAmount ∷ []
+unfolding textOf together number numberAfter digit
+sum-texts = refl
+
+order-amounts : map orderAmount (0 ∷ 1 ∷ 999_999_999 ∷ 1_000_000_000 ∷ []) ≡ NoAmount ∷ amount 1 ∷ amount 999_999_999 ∷ NoAmount ∷ []
+unfolding amountWithin
+order-amounts = refl
+
+order-fees : map orderFee (0 ∷ 1 ∷ 999_999_999 ∷ 1_000_000_000 ∷ []) ≡ fee 0 ∷ fee 1 ∷ fee 999_999_999 ∷ NoFee ∷ []
+unfolding feeWithin
+order-fees = refl
+
+sum-amounts : map sumAmount (0 ∷ 1 ∷ 9_999_999_999_999 ∷ 10_000_000_000_000 ∷ [])
+    ≡ amount 0 ∷ amount 1 ∷ amount 9_999_999_999_999 ∷ NoAmount ∷ []
+unfolding amountWithin
+sum-amounts = refl
+
+sum-fees : map sumFee (0 ∷ 1 ∷ 9_999_999_999_999 ∷ 10_000_000_000_000 ∷ []) ≡ fee 0 ∷ fee 1 ∷ fee 9_999_999_999_999 ∷ NoFee ∷ []
+unfolding feeWithin
+sum-fees = refl

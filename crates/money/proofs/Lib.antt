@@ -1,0 +1,3 @@
+-- Laws of an amount's text, and worked examples.
+pub mod Reading
+pub mod Examples

@@ -1,0 +1,31 @@
+-- "Its text is 1 to 7 digits, a point, 2 digits; a sum's has 1 to 11 digits before the point. Either text may read zero."
+use mathlib.Core.Bool.{cond}
+use mathlib.Core.List.{List}
+use Prim.Native.Nat.{ℕ, _+_, _*_, _-_}
+use lib.Dec.{eqb}
+use lib.ListN.{length, getD}
+use Rattle.text.specs.Bytes.{part}
+use Rattle.text.specs.Number.{number}
+use Rattle.text.specs.declared.number.Number.{Number}
+use Rattle.text.specs.declared.number.Number.the-variants.{Of, Not}
+use Rattle.money.specs.declared.AmountRead.{AmountRead}
+use Rattle.money.specs.declared.AmountRead.the-variants.{Is as AmountIs, Not as NoAmount}
+
+-- Zlote and grosze together.
+unfoldable pub together : Number → Number → AmountRead
+together (Of zlote) (Of grosze) = AmountIs (record { 0 = zlote * 100 + grosze })
+together (Of zlote) Not = NoAmount
+together Not grosze = NoAmount
+
+-- 1 to `most` digits, a point (2E), 2 digits: the value in grosze, or no amount.
+unfoldable pub textOf : ℕ → List ℕ → AmountRead
+textOf most s =
+    cond (eqb (getD s (length s - 3) 0) 0x2E)
+    (together (number 1 most (part 0 (length s - 3) s)) (number 2 2 (part (length s - 2) (length s) s)))
+    NoAmount
+
+abbrev pub orderText : List ℕ → AmountRead
+orderText s = textOf 7 s
+
+abbrev pub sumText : List ℕ → AmountRead
+sumText s = textOf 11 s
