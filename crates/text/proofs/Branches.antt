@@ -38,6 +38,14 @@ second-no false u h = refl
 pub told : (r t v : Bool) → r ≡ t → r ≡ v → t ≡ v
 told r t v p q = sym p ∙ q
 
+pub told-no : (r t : Bool) → r ≡ t → not r ≡ true → t ≡ false
+told-no true t p q = cc
+told-no false t p q = sym p
+
+pub told-yes : (r t : Bool) → r ≡ t → not r ≡ false → t ≡ true
+told-yes true t p q = sym p
+told-yes false t p q = cc
+
 pub ruleset branches = (
   refl,
   cond-true,
@@ -50,6 +58,8 @@ pub ruleset branches = (
   first-no,
   second-no,
   told,
+  told-no,
+  told-yes,
   lt-ltb,
   le-ltb,
   le-leb,

@@ -1,6 +1,8 @@
 -- The fields of a text, found again by the places of its separators.
 --     field-by-table     field k by the table of the text's own cuts is field k
 --     count-of-fields    there is one field more than there are cuts
+--     field-found        the same of what `cut` left and `field` answered
+--     so-many-fields     a count short of the table's size tells the number of fields
 -- Assumes nothing.
 use mathlib.Core.Path.{_≡_, refl, sym, _∙_, ap}
 use mathlib.Core.Bool.{Bool, true, false, cond}
@@ -9,7 +11,7 @@ use Prim.Native.Nat.{ℕ, zero, suc, min, _+_, _-_, _<_, _≤_}
 use native.Mathlib.Decide.{decLe, decLt}
 use native.Mathlib.Numerals.{add-one}
 use native.Mathlib.Omega.{arith}
-use borrow.Author.Tests.{lt-ltb, le-ltb, ne-eqb}
+use borrow.Author.Tests.{lt-ltb, le-ltb, eq-eqb, ne-eqb, eqb-true, eqb-false}
 use lib.Dec.{eqb, ltb}
 use lib.ListN.{length, getD, take, drop, replicate, length-drop, List·getD-append, List·getD-eq-default}
 use lib.Seq.{take-all, drop-drop, getD-take}
@@ -132,3 +134,21 @@ module _ (size separator : ℕ) (s : List ℕ) where
       go (no m) =
           rw (lt-ltb (min size (length (cuts separator s))) k (omega arith))
           (sym (no-piece s (cuts separator s) 0 k (omega arith)))
+
+  -- what `cut` left in a table and counted, and the part that `field` then found
+  pub field-found : {table found : List ℕ} {count k : ℕ} → count ≡ cutCount size separator s → table ≡ cutTable size separator s → k < size
+      → found ≡ fieldBy table count k s → found ≡ getD (fields separator s) k []
+  field-found {table} {found} {count} {k} counted filled h e = (rw (counted, filled) at e) ∙ field-by-table k h
+
+  -- a count short of the table's size tells the number of fields
+  pub so-many-fields : {count : ℕ} (k : ℕ) → count ≡ cutCount size separator s → k < size → eqb count k ≡ eqb (length (fields separator s)) (suc k)
+  unfolding cutCount
+  so-many-fields {count} k counted h = go (eqb count k) refl
+    where
+      go : (t : Bool) → eqb count k ≡ t → t ≡ eqb (length (fields separator s)) (suc k)
+      go true e =
+          let found = eqb-true count k e in
+          sym (eq-eqb (length (fields separator s)) (suc k) (omega (arith, count-of-fields separator s)))
+      go false e =
+          let other = eqb-false count k e in
+          sym (ne-eqb (length (fields separator s)) (suc k) (omega (arith, count-of-fields separator s)))

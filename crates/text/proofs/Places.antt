@@ -4,6 +4,7 @@ use mathlib.Core.Path.{_≡_, refl, sym, _∙_}
 use mathlib.Core.List.{List, _∷_}
 use Prim.Native.Nat.{ℕ, min, _+_, _-_, _<_, _≤_}
 use native.Mathlib.Decide.{decLe}
+use native.Mathlib.Nat.{sub-zero}
 use native.Mathlib.Numerals.{add-one}
 use native.Mathlib.Omega.{arith}
 use lib.ListN.{length, getD, take, drop, length-drop}
@@ -30,3 +31,9 @@ module _ (s : List ℕ) (a e : ℕ) where
       let n : min e (length s) - a ≡ 0 = omega arith in
       let z : length s - length s ≡ 0 = omega arith in
       rw z (rw n at part-clipped)
+
+pub part-from-start : (s : List ℕ) (n : ℕ) → part 0 n s ≡ take n s
+part-from-start s n = rw (sub-zero n)
+
+pub part-to-end : (s : List ℕ) (n : ℕ) → part n (length s) s ≡ drop n s
+part-to-end s n = take-all (length s - n) (drop n s) (omega (arith, length-drop n s))

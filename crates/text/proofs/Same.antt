@@ -2,11 +2,11 @@
 -- Assumes nothing.
 use mathlib.Core.Path.{_≡_, refl, ap}
 use mathlib.Core.Bool.{Bool, true, false, _&&_}
-use mathlib.Core.List.{List, [], _∷_}
+use mathlib.Core.List.{List, [], _∷_, _++_}
 use Prim.Native.Nat.{ℕ, suc, _+_, _<_, _≤_}
 use borrow.Author.Tests.{eq-eqb, ne-eqb, eqb-true}
 use lib.Dec.{eqb}
-use lib.ListN.{length, getD, drop, drop-of-length-le}
+use lib.ListN.{length, getD, take, drop, drop-of-length-le}
 use Rattle.text.specs.Bytes.{same}
 use Rattle.text.proofs.Branches.{and-left, and-right, second-no}
 use Rattle.text.proofs.Places.{from-here}
@@ -46,3 +46,15 @@ pub same-self : (a : List ℕ) → same a a ≡ true
 unfolding same
 same-self [] = refl
 same-self (x ∷ a) = rw (eq-eqb x x refl) (same-self a)
+
+and-assoc : (t u v : Bool) → (t && (u && v)) ≡ ((t && u) && v)
+and-assoc true u v = refl
+and-assoc false u v = refl
+
+-- a text is two texts one after the other where its first bytes are the one and the rest is the other
+pub same-joined : (s a b : List ℕ) → same s (a ++ b) ≡ (same (take (length a) s) a && same (drop (length a) s) b)
+unfolding same
+same-joined s [] b = refl
+same-joined [] (y ∷ a) b = refl
+same-joined (x ∷ s) (y ∷ a) b =
+    rw (same-joined s a b) (and-assoc (eqb x y) (same (take (length a) s) a) (same (drop (length a) s) b))

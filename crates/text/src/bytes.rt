@@ -2,7 +2,7 @@
 ghost use mathlib.Core.Path.{_≡_};
 ghost use mathlib.Core.Bool.{_||_};
 ghost use Prim.Native.Nat.{min, _+_, _≤_};
-ghost use lib.ListN.{length, getD, drop};
+ghost use lib.ListN.{length, getD, take, drop};
 ghost use Rattle.text.specs.Bytes.{between, digit, letter, letterOrDigit, lettersOrDigits, part, same, holds, before};
 
 // Is the byte from low to high?
@@ -71,6 +71,20 @@ pub fn slice(s: &[u8], a: usize, e: usize) -> &[u8]
         return &s[n..n];
     }
     &s[a..end]
+}
+
+// The first n bytes, or all where there are fewer.
+pub fn first(s: &[u8], n: usize) -> &[u8]
+    ensures { λ r. ⌜ now r ≡ take n (now (s .entry)) ⌝ }
+{
+    slice(s, 0, n)
+}
+
+// The bytes behind the first n.
+pub fn rest(s: &[u8], n: usize) -> &[u8]
+    ensures { λ r. ⌜ now r ≡ drop n (now (s .entry)) ⌝ }
+{
+    slice(s, n, s.len())
 }
 
 // Do two texts have the same bytes?
