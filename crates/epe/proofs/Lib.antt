@@ -1,0 +1,5 @@
+pub mod QuestionLaws
+pub mod IdentLaws
+pub mod ProfileLaws
+pub mod NameLaws
+pub mod NameExamples

@@ -1,0 +1,128 @@
+-- Worked examples of identifiers, names, titles and profiles, each computed.
+-- Assumes nothing.
+use mathlib.Core.Path.{_≡_, refl}
+use mathlib.Core.Bool.{Bool, true, false}
+use mathlib.Core.List.{[], _∷_, _++_, map}
+use Prim.Native.Nat.{ℕ}
+use Prim.Native.String.{String}
+use lib.ListN.{replicate}
+use Rattle.text.specs.Bytes.{digit, letter, letterOrDigit, lettersOrDigits, same}
+use Rattle.text.specs.Quoted.{bytes}
+use Rattle.text.specs.Number.{number, numberAfter, isNumber, valueOf}
+use Rattle.text.specs.Fields.{fields, onto}
+use Rattle.money.specs.declared.Money.{Money}
+use Rattle.money.specs.declared.Money.the-variants.{K, O}
+use Rattle.calendar.specs.Calendar.{real, leap, monthLength}
+use Rattle.epe.specs.Questions.{firstNo, isPassed}
+use Rattle.epe.specs.Ident.{identifier, identOf, sameIdent, identInForm}
+use Rattle.epe.specs.Profile.{feesFit, profileFits, profileQuestions}
+use Rattle.epe.specs.Name.{nameQuestions, nameOf, titleQuestions, titleOf}
+use Rattle.epe.specs.declared.profile.Profile.{Profile}
+use Rattle.epe.specs.declared.verdict.Verdict.{Verdict}
+use Rattle.epe.specs.declared.verdict.Verdict.the-variants.{Passed, Refused}
+
+isIdentifier : String → Bool
+unfolding identifier lettersOrDigits letterOrDigit letter digit
+isIdentifier s = identifier (bytes s)
+
+-- 2, 3, 17 and 18 bytes; a digit among the first two; a byte that is neither.
+identifiers : map isIdentifier ("ZS" ∷ "ZS1" ∷ "ABCDEFGHIJKLMNopq" ∷ "ABCDEFGHIJKLMNopqr" ∷ "Z1S" ∷ "ZS_" ∷ [])
+    ≡ false ∷ true ∷ true ∷ false ∷ false ∷ false ∷ []
+unfolding isIdentifier
+identifiers = refl
+
+-- How one is held; what is none is held as no bytes.
+held : identOf (bytes "ZS1") ≡ record { bytes = bytes "ZS1" ++ replicate 14 0; len = 3 }
+unfolding identOf identifier lettersOrDigits letterOrDigit letter digit
+held = refl
+
+none-held : identOf (bytes "ZS") ≡ record { bytes = replicate 17 0; len = 0 }
+unfolding identOf identifier lettersOrDigits letterOrDigit letter digit
+none-held = refl
+
+-- Case counts.
+by-case : sameIdent (identOf (bytes "ZS1")) (identOf (bytes "Zs1")) ≡ false
+unfolding sameIdent same identOf identifier lettersOrDigits letterOrDigit letter digit
+by-case = refl
+
+-- In no form: a length of 18 for 17 bytes, and a byte behind the length.
+out-of-form : map identInForm
+    (record { bytes = bytes "ABCDEFGHIJKLMNopq"; len = 18 } ∷ record { bytes = bytes "ZS12" ++ replicate 13 0; len = 3 } ∷ [])
+    ≡ false ∷ false ∷ []
+unfolding identInForm same identifier lettersOrDigits letterOrDigit letter digit
+out-of-form = refl
+
+judged : String → Verdict
+unfolding nameQuestions firstNo same fields onto identifier lettersOrDigits letterOrDigit letter number numberAfter isNumber valueOf digit real leap monthLength
+judged s = firstNo (nameQuestions (bytes s))
+
+-- Names that pass: the paper's, both payment kinds, the last kind, 29 February 2000.
+passing : map judged ("EPEZZS1-201007-A-0" ∷ "EPEZAb9-991231-B-4" ∷ "EPEZZS1-000229-A-0" ∷ []) ≡ Passed ∷ Passed ∷ Passed ∷ []
+unfolding judged
+passing = refl
+
+-- Two hyphens, four and none; a lower-case start; no Z; no identifier.
+start-refused : map judged ("EPEZZS1-201007-A0" ∷ "EPEZZS1-201007-A-0-" ∷ "" ∷ "epezZS1-201007-A-0" ∷ "EPE---" ∷ "EPEZ---" ∷ "EPEzZS1-201007-A-0" ∷ "EPEZZ1-201007-A-0" ∷ [])
+    ≡ Refused 3 ∷ Refused 3 ∷ Refused 3 ∷ Refused 7 ∷ Refused 10 ∷ Refused 13 ∷ Refused 10 ∷ Refused 13 ∷ []
+unfolding judged
+start-refused = refl
+
+-- No date, eight digits, no real date.
+date-refused : map judged ("EPEZZS1---" ∷ "EPEZZS1-20201007-A-0" ∷ "EPEZZS1-010229-A-0" ∷ []) ≡ Refused 16 ∷ Refused 16 ∷ Refused 16 ∷ []
+unfolding judged
+date-refused = refl
+
+-- A payment kind that is neither A nor B; a benefit kind past 4, of two digits, and with a byte behind it.
+kind-refused : map judged ("EPEZZS1-201007--" ∷ "EPEZZS1-201007-C-0" ∷ "EPEZZS1-201007-A-" ∷ "EPEZZS1-201007-A-5" ∷ "EPEZZS1-201007-A-00" ∷ "EPEZZS1-201007-A-0 " ∷ [])
+    ≡ Refused 19 ∷ Refused 19 ∷ Refused 22 ∷ Refused 22 ∷ Refused 22 ∷ Refused 22 ∷ []
+unfolding judged
+kind-refused = refl
+
+parts : nameOf (bytes "EPEZZS1-201007-B-3")
+    ≡ record { ident = identOf (bytes "ZS1"); date = record { 0 = 20201007 }; payment = 0x42; kind = 3 }
+unfolding nameOf identOf identifier lettersOrDigits letterOrDigit letter fields onto number numberAfter valueOf digit
+parts = refl
+
+titled : String → Verdict
+unfolding titleOf titleQuestions isPassed nameQuestions firstNo same fields onto identifier lettersOrDigits letterOrDigit letter number numberAfter isNumber valueOf digit real leap monthLength
+titled s = titleOf (bytes s) .verdict
+
+titles : map titled ("EPEZZS1-201007-A-0-K" ∷ "EPEZZS1-201007-A-0-O" ∷ []) ≡ Passed ∷ Passed ∷ []
+unfolding titled
+titles = refl
+
+-- None of them a title: lower case, trailing bytes, an eight-digit date, no ending, too short for one.
+titles-refused : map titled ("EPEZZS1-201007-A-0-k" ∷ "EPEZZS1-201007-A-0-K " ∷ "EPEZZS1-20201007-A-0-K" ∷ "EPEZZS1-201007-A-0" ∷ "K" ∷ [])
+    ≡ Refused 11 ∷ Refused 11 ∷ Refused 11 ∷ Refused 11 ∷ Refused 11 ∷ []
+unfolding titled
+titles-refused = refl
+
+-- What a title gives: the name before its ending, and the money of its ending.
+abbrev money : String → Money
+money s = titleOf (bytes s) .money
+
+moneys : map money ("EPEZZS1-201007-A-0-K" ∷ "EPEZZS1-201007-A-0-O" ∷ []) ≡ K ∷ O ∷ []
+unfolding titleOf same
+moneys = refl
+
+title-name : titleOf (bytes "EPEZZS1-201007-A-0-O") .name ≡ nameOf (bytes "EPEZZS1-201007-A-0")
+unfolding titleOf
+title-name = refl
+
+-- Profiles by today, a fee and R: the last ones within the ranges, and each past one of them.
+abbrev profile : ℕ → ℕ → ℕ → Profile
+profile today fee r = record { today = record { 0 = today }; fees = 350 ∷ 0 ∷ 350 ∷ 350 ∷ fee ∷ []; fields = r }
+
+judgedProfile : Profile → Verdict
+unfolding profileQuestions profileFits feesFit firstNo real leap monthLength
+judgedProfile p = firstNo (profileQuestions p)
+
+profiles : map judgedProfile (profile 20201007 999999999 19 ∷ profile 20991231 0 32 ∷ []) ≡ Passed ∷ Passed ∷ []
+unfolding judgedProfile
+profiles = refl
+
+profiles-refused : map judgedProfile
+    (profile 19991231 350 19 ∷ profile 21000101 350 19 ∷ profile 20201007 1000000000 19 ∷ profile 20201007 350 18 ∷ profile 20201007 350 33 ∷ [])
+    ≡ Refused 905 ∷ Refused 905 ∷ Refused 905 ∷ Refused 905 ∷ Refused 905 ∷ []
+unfolding judgedProfile
+profiles-refused = refl

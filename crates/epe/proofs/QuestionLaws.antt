@@ -1,0 +1,66 @@
+-- What a verdict says of its questions, and questions asked one after the other.
+--     all-yes, refused-by        the two promises of `Questions`
+--     none-asked, next           the verdict of a function that asks its questions in order, a `next` for each
+-- Assumes nothing.
+use mathlib.Core.Path.{_≡_, refl, sym, _∙_, ap}
+use mathlib.Core.Bool.{Bool, true, false}
+use mathlib.Core.List.{List, [], _∷_, _++_}
+use Prim.Native.Nat.{ℕ}
+use native.Mathlib.Omega.{arith}
+use Rattle.text.proofs.Branches.{either-way}
+use Rattle.epe.specs.Questions.{Question, _⇒_, firstNo, askedNext, RefusedBy, AcceptedIsAllYes, RefusedIsFirstNo}
+use Rattle.epe.specs.declared.verdict.Verdict.{Verdict}
+use Rattle.epe.specs.declared.verdict.Verdict.the-variants.{Passed, Refused}
+
+never : {n : ℕ} → Refused n ≡ Passed → ⊥
+never h = let apart : _≡_ {A = ℕ} 0 1 = cc in omega arith
+
+pub all-yes : AcceptedIsAllYes
+unfolding firstNo
+all-yes [] accepted = tt
+all-yes (q ∷ qs) accepted =
+    either-way (q .yes?)
+    (λ (said : q .yes? ≡ true). (said, all-yes qs (rw said at accepted)))
+    (λ (refusing : q .yes? ≡ false). absurd (never (rw refusing at accepted)))
+
+-- a question answered yes before those of a refused list
+after-yes : (q : Question) {qs : List Question} {n : ℕ} → q .yes? ≡ true → RefusedBy qs n → RefusedBy (q ∷ qs) n
+after-yes q said by = record {
+  earlier = q ∷ by .earlier;
+  asked = by .asked;
+  later = by .later;
+  in-order = ap (λ (rest : List Question). q ∷ rest) (by .in-order);
+  earlier-yes = (said, by .earlier-yes);
+  asked-no = by .asked-no;
+  its-number = by .its-number;
+}
+
+pub refused-by : RefusedIsFirstNo
+unfolding firstNo
+refused-by [] n refused = absurd (never (sym refused))
+refused-by (q ∷ qs) n refused =
+    either-way (q .yes?)
+    (λ (said : q .yes? ≡ true). after-yes q said (refused-by qs n (rw said at refused)))
+    (λ (refusing : q .yes? ≡ false).
+    let own : Refused (q .number) ≡ Refused n = rw refusing at refused in
+    record { earlier = []; asked = q; later = qs; in-order = refl; earlier-yes = tt; asked-no = refusing; its-number = cc })
+
+-- What has been asked so far, and the verdict on it.
+pub record Asked (ps : List Question) (v : Verdict) : Type 0 where
+  pub verdict : v ≡ firstNo ps
+
+pub none-asked : Asked [] Passed
+unfolding firstNo
+none-asked = record { verdict = refl }
+
+-- one question more
+one-more : (ps : List Question) (t : Bool) (n : ℕ) → askedNext (firstNo ps) t n ≡ firstNo (ps ++ ((t ⇒ n) ∷ []))
+unfolding firstNo askedNext
+one-more [] t n = refl
+one-more (p ∷ ps) t n =
+    either-way (p .yes?)
+    (λ (said : p .yes? ≡ true). rw said (one-more ps t n))
+    (λ (refusing : p .yes? ≡ false). rw refusing)
+
+pub next : (n : ℕ) {ps : List Question} {v w : Verdict} {r t : Bool} → Asked ps v → w ≡ askedNext v r n → r ≡ t → Asked (ps ++ ((t ⇒ n) ∷ [])) w
+next n {ps} {t = t} before e answer = record { verdict = e ∙ rw (before .verdict, answer) (one-more ps t n) }

@@ -1,0 +1,29 @@
+-- `epe::name::is_title` asks for the ending only where the name passes.
+use borrow.Author.Needs.{needs}
+use Rattle.text.proofs.Branches.{branches}
+use Rattle.epe.proofs.name.is_title.Statement.{statement}
+use Rattle.epe.proofs.name.is_title.Tie as tie
+
+judge-name-requires : tie.Need-judge-name-requires
+judge-name-requires c κs = search needs
+
+is-passed-requires : tie.Need-is-passed-requires
+is-passed-requires c κs = search needs
+
+is-ending-requires : tie.Need-is-ending-requires
+is-ending-requires c κs = search needs
+
+returns : tie.Need-returns
+returns c =
+    let passes = rw (c .before .before .before .judge-name .ensures) at (c .before .before .is-passed .ensures) in
+    search branches depth 10
+
+returns-2 : tie.Need-returns-2
+returns-2 c =
+    let passes = rw (c .before .before .judge-name .ensures) at (c .before .is-passed .ensures) in
+    search branches depth 10
+
+pub is-title-spec : {M : Type 1} → statement M
+is-title-spec =
+    tie.close
+    (tie.spec judge-name-requires is-passed-requires is-ending-requires returns returns-2)

@@ -1,0 +1,4 @@
+pub mod Questions
+pub mod Ident
+pub mod Profile
+pub mod Name

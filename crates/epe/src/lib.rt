@@ -1,0 +1,6 @@
+// The order file (EPE): identifiers, names and titles, the profile, and document 01's questions on a file. It knows nothing of a book.
+pub mod ident;
+pub mod name;
+pub mod profile;
+pub mod refusals;
+pub mod verdict;
