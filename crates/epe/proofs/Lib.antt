@@ -1,5 +1,14 @@
 pub mod QuestionLaws
+pub mod Asking
 pub mod IdentLaws
 pub mod ProfileLaws
 pub mod NameLaws
+pub mod Lines
+pub mod RecordLaws
+pub mod Walking
+pub mod Taking
+pub mod Judging
+pub mod AcceptedAsStated
+pub mod Examples
 pub mod NameExamples
+pub mod RecordExamples

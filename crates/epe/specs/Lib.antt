@@ -2,3 +2,11 @@ pub mod Questions
 pub mod Ident
 pub mod Profile
 pub mod Name
+pub mod File
+pub mod Cut
+pub mod Opening
+pub mod Faults
+pub mod Contents
+pub mod Accepted
+pub mod Walk
+pub mod Tally

@@ -1,0 +1,62 @@
+-- Laws of a record line's questions: spaces from a field on, and the first fault.
+-- Assumes nothing.
+use mathlib.Core.Path.{_≡_, refl}
+use mathlib.Core.Bool.{Bool, true, false}
+use mathlib.Core.List.{List, [], _∷_}
+use Prim.Native.Nat.{ℕ, zero, suc, _+_, _-_, _<_, _≤_}
+use native.Mathlib.Omega.{arith}
+use borrow.Author.Tests.{le-leb}
+use lib.ListN.{length, List·getD-eq-default}
+use Rattle.text.proofs.Branches.{told-no, told-yes}
+use Rattle.epe.specs.File.{field}
+use Rattle.epe.specs.Questions.{Question, _⇒_, firstNo}
+use Rattle.epe.specs.Faults.{spaced, unspaced, faultIn}
+use Rattle.epe.specs.Contents.{shaped}
+use Rattle.epe.specs.Tally.{RecordOf}
+use Rattle.epe.specs.declared.record.RecordRead.{RecordRead}
+
+pub none-unspaced : (s : List ℕ) → length s ≡ 0 → false ≡ spaced s
+unfolding spaced
+none-unspaced s h =
+    rw (
+      List·getD-eq-default s 0 {n = 0} (omega arith),
+      List·getD-eq-default s 0 {n = length s - 1} (omega arith),
+    )
+
+-- fields from one on, of which n are still to look at
+pub unspaced-on : (n from : ℕ) (line : List ℕ) → 0 < n → spaced (field from line) ≡ false
+    → unspaced n from line ≡ unspaced (n - 1) (from + 1) line
+unfolding unspaced
+unspaced-on zero from line h e = absurd (omega arith)
+unspaced-on (suc n) from line h e = let d : suc n - 1 ≡ n = omega arith in rw (e, d)
+
+pub unspaced-not : (n from : ℕ) (line : List ℕ) → 0 < n → spaced (field from line) ≡ true → unspaced n from line ≡ false
+unfolding unspaced
+unspaced-not zero from line h e = absurd (omega arith)
+unspaced-not (suc n) from line h e = rw e
+
+pub unspaced-end : (n from : ℕ) (line : List ℕ) → n ≤ 0 → unspaced n from line ≡ true
+unfolding unspaced
+unspaced-end zero from line h = refl
+unspaced-end (suc n) from line h = absurd (omega arith)
+
+-- A question answered no gives its number; one answered yes leaves the fault to those behind it.
+module _ (yes : Bool) (n : ℕ) (qs : List Question) where
+  pub fault-here : yes ≡ false → n ≡ faultIn (firstNo ((yes ⇒ n) ∷ qs))
+  unfolding faultIn firstNo
+  fault-here h = rw h
+
+  pub fault-later : (r : ℕ) → yes ≡ true → r ≡ faultIn (firstNo qs) → r ≡ faultIn (firstNo ((yes ⇒ n) ∷ qs))
+  unfolding firstNo
+  fault-later r h e = rw h e
+
+pub no-fault : 0 ≡ faultIn (firstNo [])
+unfolding faultIn firstNo
+no-fault = refl
+
+-- `search faults depth 12` closes the returns of a function that asks questions in a definition's order.
+pub ruleset faults = (told-no, told-yes, fault-here, fault-later, no-fault)
+
+-- What `read_record` says of a line's shape, where a profile allows the number of fields.
+pub shape-of : {r n : ℕ} {line : List ℕ} {read : RecordRead} → RecordOf r n line read → r ≤ 32 → read .shaped ≡ shaped r n line
+shape-of {r} told h = rw (le-leb r 32 h) at (told .its-shape)

@@ -1,0 +1,205 @@
+-- The walk over a text's lines, one after the other, and the tally that is kept on the way.
+-- Assumes nothing.
+use mathlib.Core.Path.{_≡_, refl, sym, _∙_, ap}
+use mathlib.Core.Bool.{Bool, true, false, true≢false, cond, not, _&&_}
+use mathlib.Core.List.{List, [], _∷_, map}
+use Prim.Native.Nat.{ℕ, _+_, _*_, _-_, _^_, _<_, _≤_}
+use native.Mathlib.Decide.{decLt}
+use native.Mathlib.Omega.{arith}
+use borrow.Author.Tests.{lt-ltb, le-ltb, le-leb, lt-leb, eqb-true}
+use lib.Dec.{eqb, leb, ltb, lit<}
+use lib.ListN.{length, getD, drop}
+use Rattle.text.specs.Bytes.{same, part}
+use Rattle.text.specs.Quoted.{bytes}
+use Rattle.text.specs.Number.{number, isNumber, valueOf}
+use Rattle.text.specs.Fields.{fields}
+use Rattle.text.specs.Lines.{parted, lines, lineStop, stray}
+use Rattle.text.proofs.Branches.{and-left, and-right}
+use Rattle.text.proofs.Digits.{number-bound, value-bound}
+use Rattle.text.proofs.LineEnds.{line-end-le, line-here, last-line-here}
+use Rattle.text.proofs.Places.{part-to-end}
+use Rattle.money.proofs.Reading.{order-text-bound}
+use Rattle.epe.specs.File.{text, header, records, field}
+use Rattle.epe.specs.Contents.{shaped, allShaped, amountIn, allPriced, total, orderOf, faultyCount}
+use Rattle.epe.specs.Walk.{linesFrom, lineEnd, nextLine, body}
+use Rattle.epe.specs.Tally.{RecordOf, added, Small, Tallied}
+use Rattle.epe.specs.declared.file.Tally.{Tally}
+use Rattle.epe.specs.declared.record.RecordRead.{RecordRead}
+use Rattle.epe.proofs.RecordLaws.{shape-of}
+
+module _ (s : List ℕ) (at : ℕ) where
+  here : at ≤ length s → linesFrom at s ≡ parted (drop at s)
+  unfolding linesFrom
+  here h = rw (le-leb at (length s) h)
+
+  pub walked-out : length s < at → linesFrom at s ≡ []
+  unfolding linesFrom
+  walked-out h = rw (lt-leb at (length s) h)
+
+next-inside : (s : List ℕ) (at : ℕ) → lineEnd at s < length s → nextLine at s ≡ lineEnd at s + 2
+unfolding nextLine
+next-inside s at h = rw (lt-ltb (lineEnd at s) (length s) h)
+
+next-outside : (s : List ℕ) (at : ℕ) → length s ≤ lineEnd at s → nextLine at s ≡ length s + 1
+unfolding nextLine
+next-outside s at h = rw (le-ltb (lineEnd at s) (length s) h)
+
+-- the line at a place, and the lines after it
+pub walk-on : (s : List ℕ) (at : ℕ) → at ≤ length s → linesFrom at s ≡ part at (lineEnd at s) s ∷ linesFrom (nextLine at s) s
+walk-on s at h = go (decLt (lineEnd at s) (length s))
+  where
+    go : Dec (lineEnd at s < length s) → linesFrom at s ≡ part at (lineEnd at s) s ∷ linesFrom (nextLine at s) s
+    go (yes l) =
+        let first = line-here s at (lineEnd at s) refl l in
+        rw (next-inside s at l, here s at h, here s (lineEnd at s + 2) (first .0)) (first .1)
+    go (no l) =
+        let e : lineEnd at s ≡ length s = omega (arith, line-end-le s at (lineEnd at s) refl h) in
+        rw (next-outside s at (omega arith), here s at h, walked-out s (length s + 1) (omega arith), e, part-to-end s at)
+        (last-line-here s at (lineEnd at s) refl h (omega arith))
+
+-- a walk goes on towards the end
+pub next-later : (s : List ℕ) (at : ℕ) → at ≤ length s → at < nextLine at s
+next-later s at h = go (decLt (lineEnd at s) (length s))
+  where
+    go : Dec (lineEnd at s < length s) → at < nextLine at s
+    go (yes l) = omega (arith, next-inside s at l)
+    go (no l) = omega (arith, next-outside s at (omega arith))
+
+-- the header and the records of a file, as the walk meets them
+module _ (file : List ℕ) where
+  unwalked : lines (text file) ≡ part 0 (lineEnd 0 (body file)) (body file) ∷ linesFrom (nextLine 0 (body file)) (body file)
+  unfolding lines
+  unwalked = sym (here (body file) 0 (omega arith)) ∙ walk-on (body file) 0 (omega arith)
+
+  pub header-first : header file ≡ part 0 (lineEnd 0 (body file)) (body file)
+  header-first = rw unwalked
+
+  pub records-after : records file ≡ linesFrom (nextLine 0 (body file)) (body file)
+  records-after = rw unwalked
+
+-- a shaped record's number has at most six digits
+pub number-few : (r n : ℕ) (line : List ℕ) → shaped r n line ≡ true → n < 1_000_000
+unfolding shaped
+number-few r n line h =
+    let seen = number 1 6 (field 2 line) in
+    let counts = isNumber seen && eqb (valueOf seen) n in
+    let second = same (field 1 line) (bytes "2") && counts in
+    let first = eqb (length (fields 0x7C line)) r && not (stray line) in
+    let told = and-right (same (field 1 line) (bytes "2")) counts (and-right first second h) in
+    let e = eqb-true (valueOf seen) n (and-right (isNumber seen) (eqb (valueOf seen) n) told) in
+    omega (arith, value-bound (10 ^ 6) seen (lit< tt) (number-bound 1 6 (field 2 line)))
+
+-- the tally on the way: with what is left it gives the whole
+pub record Going (fields : ℕ) (lines left : List (List ℕ)) (tally : Tally) : Type 0 where
+  pub begun : tally .shaped ≡ true
+  pub shape : allShaped fields (tally .count + 1) left ≡ allShaped fields 1 lines
+  pub prices : (tally .priced && allPriced left) ≡ allPriced lines
+  pub counted : tally .count + length left ≡ length lines
+  pub summed : tally .sum + total left ≡ total lines
+  pub faults : tally .faulty + faultyCount (map orderOf left) ≡ faultyCount (map orderOf lines)
+  pub few : tally .count ≤ 999_999
+  pub little : tally .sum ≤ tally .count * 999_999_999
+  pub fewer : tally .faulty ≤ tally .count
+
+pub going-start : (fields : ℕ) (lines : List (List ℕ)) (tally : Tally)
+    → tally ≡ record { shaped = true; priced = true; count = 0; sum = 0; faulty = 0 } → Going fields lines lines tally
+going-start fields lines tally e = rw e (record {
+  begun = refl;
+  shape = refl;
+  prices = refl;
+  counted = omega arith;
+  summed = omega arith;
+  faults = omega arith;
+  few = omega arith;
+  little = omega arith;
+  fewer = omega arith;
+})
+
+one-at-most : (t : Bool) → cond t 0 1 ≤ 1
+one-at-most true = omega arith
+one-at-most false = omega arith
+
+pub mark-at-most : (fault : ℕ) → cond (eqb fault 0) 0 1 ≤ 1
+mark-at-most fault = one-at-most (eqb fault 0)
+
+module _ (fields : ℕ) (lines left : List (List ℕ)) (line : List ℕ) (tally : Tally) (going : Going fields lines (line ∷ left) tally) where
+  -- a line that is not shaped settles the question
+  pub going-misshaped : shaped fields (tally .count + 1) line ≡ false → allShaped fields 1 lines ≡ false
+  unfolding allShaped
+  going-misshaped h = sym (going .shape) ∙ rw h
+
+  and-on : (t u v : Bool) → ((t && u) && v) ≡ (t && (u && v))
+  and-on true u v = refl
+  and-on false u v = refl
+
+  -- a line that is shaped is added
+  pub going-on : shaped fields (tally .count + 1) line ≡ true → Going fields lines left (added tally (orderOf line))
+  unfolding added allShaped allPriced total faultyCount orderOf
+  going-on h =
+      let bound = order-text-bound (field 3 line) in
+      let small = number-few fields (tally .count + 1) line h in
+      let one = mark-at-most (orderOf line .fault) in
+      record {
+        begun = going .begun;
+        shape = rw h at (going .shape);
+        prices = and-on (tally .priced) (ltb 0 (amountIn line)) (allPriced left) ∙ going .prices;
+        counted = omega (arith, going .counted);
+        summed = omega (arith, going .summed);
+        faults = omega (arith, going .faults);
+        few = omega arith;
+        little = omega (arith, going .little);
+        fewer = omega (arith, going .fewer, one);
+      }
+
+pub going-end : (fields : ℕ) (lines : List (List ℕ)) (tally : Tally) → Going fields lines [] tally → Tallied fields lines tally
+unfolding allShaped allPriced total faultyCount
+going-end fields lines tally going = record {
+  shape = going .begun ∙ going .shape;
+  prices = λ h. and-yes (tally .priced) ∙ going .prices;
+  counted = λ h. omega (arith, going .counted);
+  summed = λ h. omega (arith, going .summed);
+  faults = λ h. omega (arith, going .faults);
+}
+  where
+    and-yes : (t : Bool) → t ≡ (t && true)
+    and-yes true = refl
+    and-yes false = refl
+
+-- a turn of the walk: the line at a place is read, and the next place reached
+pub record Turn (fields : ℕ) (s : List ℕ) (from at : ℕ) (tally : Tally) (read : RecordRead) (end : ℕ) : Type 0 where
+  pub small : Small tally (read .order)
+  pub misshaped : read .shaped ≡ false → allShaped fields 1 (linesFrom from s) ≡ false
+  pub on : (tally′ : Tally) (at′ : ℕ) → read .shaped ≡ true → tally′ ≡ added tally (read .order)
+      → at′ ≡ cond (ltb end (length s)) (end + 2) (length s + 1)
+      → Going fields (linesFrom from s) (linesFrom at′ s) tally′ × (at < at′)
+
+pub turn-of : (fields : ℕ) (s : List ℕ) (from at : ℕ) (tally : Tally) (read : RecordRead) (line : List ℕ) (end : ℕ)
+    → at ≤ length s → fields ≤ 32
+    → Going fields (linesFrom from s) (linesFrom at s) tally
+    → end ≡ lineEnd at s → line ≡ part at end s → RecordOf fields (tally .count + 1) line read
+    → Turn fields s from at tally read end
+unfolding nextLine
+turn-of fields s from at tally read line end inside allowed going ends lined told =
+    let here-is : linesFrom at s ≡ line ∷ linesFrom (nextLine at s) s = rw (lined, ends) (walk-on s at inside) in
+    let on-line = rw here-is at going in
+    let shape = shape-of told allowed in
+    record {
+      small = record { few = going .few; little = going .little; fewer = going .fewer; bounded = told .within-cap };
+      misshaped = λ h. going-misshaped fields (linesFrom from s) (linesFrom (nextLine at s) s) line tally on-line (sym shape ∙ h);
+      on = λ tally′ at′ h t a.
+          let next : at′ ≡ nextLine at s = rw ends at a in (
+            rw (t, told .its-order, next) (going-on fields (linesFrom from s) (linesFrom (nextLine at s) s) line tally on-line (sym shape ∙ h)),
+            rw next (next-later s at inside),
+          );
+    }
+
+-- the tally of lines that are not all shaped
+pub tallied-misshaped : (fields : ℕ) (lines : List (List ℕ)) (tally : Tally) → tally .shaped ≡ false → allShaped fields 1 lines ≡ false
+    → Tallied fields lines tally
+tallied-misshaped fields lines tally n h = record {
+  shape = n ∙ sym h;
+  prices = λ t. absurd (true≢false (sym t ∙ n));
+  counted = λ t. absurd (true≢false (sym t ∙ n));
+  summed = λ t. absurd (true≢false (sym t ∙ n));
+  faults = λ t. absurd (true≢false (sym t ∙ n));
+}

@@ -1,0 +1,13 @@
+-- `epe::file::faulty_mark` counts a fault.
+use Rattle.text.proofs.Branches.{branches}
+use Rattle.epe.proofs.file.faulty_mark.Statement.{statement}
+use Rattle.epe.proofs.file.faulty_mark.Tie as tie
+
+returns : tie.Need-returns
+returns c = search branches depth 4
+
+returns-2 : tie.Need-returns-2
+returns-2 c = search branches depth 4
+
+pub faulty-mark-spec : {M : Type 1} → statement M
+faulty-mark-spec = tie.close (tie.spec returns returns-2)

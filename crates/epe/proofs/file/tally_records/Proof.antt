@@ -1,0 +1,91 @@
+-- `epe::file::tally_records` tallies the lines passed; with those that are left they give the whole.
+use mathlib.Core.Path.{refl}
+use Prim.Native.Nat.{_+_, _-_, _<_}
+use native.Mathlib.Omega.{arith}
+use borrow.Author.Needs.{needs}
+use borrow.Author.Tests.{not-true, not-false}
+use lib.ListN.{length}
+use Rattle.epe.specs.Walk.{linesFrom}
+use Rattle.epe.proofs.Walking.{Going, going-start, going-end, walked-out, Turn, turn-of, tallied-misshaped}
+use Rattle.epe.proofs.file.tally_records.Statement.{statement}
+use Rattle.epe.proofs.file.tally_records.Tie as tie
+
+abbrev Inv-loop : tie.InvT-loop
+Inv-loop s from fields tally₀ at₀ tally at = Going fields (linesFrom from s) (linesFrom at s) tally
+
+abbrev μ-loop : tie.MeasureT-loop
+μ-loop s from fields tally₀ at₀ tally at = length s + 1 - at
+
+turn : (c : tie.After-read-record Inv-loop μ-loop)
+    → let start = c .before .before .before .before .before .before .before .args in
+    let here = c .before .before .before .before .before .loop in
+    Turn (start .fields) (start .s .now) (start .from) (here .at) (here .tally) (c .read-record .result) (c .before .before .before .line-end .result)
+turn c =
+    let ended = c .before .before .before in
+    let here = ended .before .before .loop in
+    turn-of _ _ _ (here .at) (here .tally) (c .read-record .result) _ _ (omega arith) (omega arith) (here .inv) (ended .line-end .ensures)
+    (c .before .before .slice .ensures) (c .read-record .ensures)
+
+on : (c : tie.After-after-line Inv-loop μ-loop)
+    → let start = c .before .before .before .before .before .before .before .before .before .before .before .before .args in
+    let here = c .before .before .before .before .before .before .before .before .before .before .loop in
+    Going (start .fields) (linesFrom (start .from) (start .s .now)) (linesFrom (c .after-line .result) (start .s .now)) (c .before .with-order .result)
+    × (here .at < c .after-line .result)
+on c =
+    turn (c .before .before .before .before .before) .on _ _ (not-false _ (c .before .before .before .if1 .left)) (c .before .with-order .ensures)
+    (c .after-line .ensures)
+
+loop-holds : tie.Need-loop-holds Inv-loop μ-loop
+loop-holds c = going-start (c .before .args .fields) _ _ refl
+
+line-end-requires : tie.Need-line-end-requires Inv-loop μ-loop
+line-end-requires c κs = search needs
+
+slice-requires : tie.Need-slice-requires Inv-loop μ-loop
+slice-requires c κs = search needs
+
+add-read-record : tie.Need-add-read-record Inv-loop μ-loop
+add-read-record c = omega (arith, c .before .before .before .before .loop .inv .few)
+
+read-record-requires : tie.Need-read-record-requires Inv-loop μ-loop
+read-record-requires c κs = search needs
+
+returns : tie.Need-returns Inv-loop μ-loop
+returns c = tallied-misshaped _ _ _ refl (turn (c .before .before) .misshaped (not-true _ (c .if1 .taken)))
+
+with-order-requires : tie.Need-with-order-requires Inv-loop μ-loop
+with-order-requires c κs = turn (c .before .before .before) .small
+
+after-line-requires : tie.Need-after-line-requires Inv-loop μ-loop
+after-line-requires c κs = search needs
+
+loop-less : tie.Need-loop-less Inv-loop μ-loop
+loop-less c = omega (arith, on c .1)
+
+loop-again : tie.Need-loop-again Inv-loop μ-loop
+loop-again c = on c .0
+
+returns-2 : tie.Need-returns-2 Inv-loop μ-loop
+returns-2 c =
+    let end = c .before .loop in
+    let start = c .before .before .before .args in
+    going-end (start .fields) (linesFrom (start .from) (start .s .now)) (end .tally)
+    (rw (walked-out (start .s .now) (end .at) (omega arith)) at (end .inv))
+
+pub tally-records-spec : {M : Type 1} → statement M
+tally-records-spec =
+    tie.close
+    (tie.spec
+    Inv-loop
+    μ-loop
+    loop-holds
+    line-end-requires
+    slice-requires
+    add-read-record
+    read-record-requires
+    returns
+    with-order-requires
+    after-line-requires
+    loop-less
+    loop-again
+    returns-2)

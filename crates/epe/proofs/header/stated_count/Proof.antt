@@ -1,0 +1,19 @@
+-- `epe::header::stated_count` is `statedCount`.
+use borrow.Author.Needs.{needs}
+use Rattle.epe.proofs.header.stated_count.Statement.{statement}
+use Rattle.epe.proofs.header.stated_count.Tie as tie
+
+field-of-requires : tie.Need-field-of-requires
+field-of-requires c κs = search needs
+
+read-requires : tie.Need-read-requires
+read-requires c κs = search needs
+
+value-of-requires : tie.Need-value-of-requires
+value-of-requires c κs = search needs
+
+returns : tie.Need-returns
+returns c = cc
+
+pub stated-count-spec : {M : Type 1} → statement M
+stated-count-spec = tie.close (tie.spec field-of-requires read-requires value-of-requires returns)

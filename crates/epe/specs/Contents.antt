@@ -1,0 +1,120 @@
+-- The contents of an order file: the header's other fields, and the records.
+use mathlib.Core.Bool.{Bool, true, false, cond, not, _&&_}
+use mathlib.Core.List.{List, [], _∷_, _++_, map}
+use Prim.Native.Nat.{ℕ, _+_}
+use lib.Dec.{leb, ltb, eqb}
+use lib.ListN.{length, take, drop}
+use Rattle.text.specs.Bytes.{same, lettersOrDigits}
+use Rattle.text.specs.Quoted.{bytes}
+use Rattle.text.specs.Number.{number, isNumber, valueOf}
+use Rattle.text.specs.Fields.{fields}
+use Rattle.text.specs.Lines.{stray}
+use Rattle.money.specs.Money.{isAmount, groszeOf}
+use Rattle.money.specs.Text.{orderText, sumText}
+use Rattle.calendar.specs.Reading.{dateOfDigits, dateInWindow}
+use Rattle.calendar.specs.declared.date.Date.{Date}
+use Rattle.calendar.specs.Time.{timeOfDay}
+use Rattle.epe.specs.Questions.{Question, _⇒_, firstNo}
+use Rattle.epe.specs.Profile.{profileFits}
+use Rattle.epe.specs.File.{header, records, field}
+use Rattle.epe.specs.Faults.{faultOf}
+use Rattle.epe.specs.declared.file.Judged.{Judged}
+use Rattle.epe.specs.declared.file.Judged.the-variants.{Accepted, Refused as NotAccepted}
+use Rattle.epe.specs.declared.profile.Profile.{Profile}
+use Rattle.epe.specs.declared.record.Order.{Order}
+use Rattle.epe.specs.declared.verdict.Verdict.{Verdict}
+use Rattle.epe.specs.declared.verdict.Verdict.the-variants.{Passed, Refused}
+
+unfoldable pub dateQuestions : Date → List ℕ → List Question
+dateQuestions today line =
+    -- "Field 7 not empty? 102"
+    (ltb 0 (length (field 7 line)) ⇒ 102)
+    -- "Field 7 a real date, hour 00-23, minute and second 00-59, from 60 days before to 10 days after today? 103"
+    ∷ (dateInWindow 60 10 today (dateOfDigits (take 8 (field 7 line))) && timeOfDay (drop 8 (field 7 line)) ⇒ 103)
+    -- "Field 6 not empty? 120"
+    ∷ (ltb 0 (length (field 6 line)) ⇒ 120)
+    -- "Field 6 six letters or digits? 121"
+    ∷ (eqb (length (field 6 line)) 6 && lettersOrDigits (field 6 line) ⇒ 121)
+    -- "Field 8 within 30 days of today on either side? 125"
+    ∷ (dateInWindow 30 30 today (dateOfDigits (field 8 line)) ⇒ 125)
+    ∷ []
+
+-- The number of orders and the sum that the header states.
+abbrev pub statedCount : List ℕ → ℕ
+statedCount line = valueOf (number 1 6 (field 11 line))
+
+abbrev pub statedSum : List ℕ → ℕ
+statedSum line = groszeOf (sumText (field 12 line))
+
+unfoldable pub statedQuestions : List ℕ → List Question
+statedQuestions line =
+    -- "Field 11 is 1 to 6 digits? 126"
+    (isNumber (number 1 6 (field 11 line)) ⇒ 126)
+    -- "At least 1? 127"
+    ∷ (leb 1 (statedCount line) ⇒ 127)
+    -- "Field 12 reads as a sum? 130"
+    ∷ (isAmount (sumText (field 12 line)) ⇒ 130)
+    -- "Above zero? 131"
+    ∷ (ltb 0 (statedSum line) ⇒ 131)
+    ∷ []
+
+-- One record line, the n-th: "R fields, no stray CR or LF, first field `2`, second 1 to 6 digits whose value counts 1, 2, 3 .."
+unfoldable pub shaped : ℕ → ℕ → List ℕ → Bool
+shaped r n line =
+    (eqb (length (fields 0x7C line)) r && not (stray line))
+    && (same (field 1 line) (bytes "2")
+    && (isNumber (number 1 6 (field 2 line)) && eqb (valueOf (number 1 6 (field 2 line))) n))
+
+unfoldable pub allShaped : ℕ → ℕ → List (List ℕ) → Bool
+allShaped r n [] = true
+allShaped r n (line ∷ lines) = shaped r n line && allShaped r (n + 1) lines
+
+-- The amount that field 3 reads, in grosze; 0 where it reads none.
+abbrev pub amountIn : List ℕ → ℕ
+amountIn line = groszeOf (orderText (field 3 line))
+
+unfoldable pub allPriced : List (List ℕ) → Bool
+allPriced [] = true
+allPriced (line ∷ lines) = ltb 0 (amountIn line) && allPriced lines
+
+unfoldable pub total : List (List ℕ) → ℕ
+total [] = 0
+total (line ∷ lines) = amountIn line + total lines
+
+unfoldable pub recordQuestions : ℕ → List ℕ → List (List ℕ) → List Question
+recordQuestions r line lines =
+    -- "Every record line has R fields, no stray CR or LF, first field `2`, second 1 to 6 digits whose value counts 1, 2, 3 ..? 901"
+    (allShaped r 1 lines ⇒ 901)
+    -- "Every field 3 reads as an amount, above zero? 902"
+    ∷ (allPriced lines ⇒ 902)
+    -- "Number of record lines equals field 11? 129"
+    ∷ (eqb (length lines) (statedCount line) ⇒ 129)
+    -- "Amounts add up to field 12? 132"
+    ∷ (eqb (total lines) (statedSum line) ⇒ 132)
+    ∷ []
+
+-- The questions 102 to 132, in order. 905 is asked here too, so that every profile has an answer.
+unfoldable pub contentsQuestions : Profile → List ℕ → List Question
+contentsQuestions profile file =
+    (profileFits profile ⇒ 905)
+    ∷ ((dateQuestions (profile .today) (header file) ++ statedQuestions (header file))
+    ++ recordQuestions (profile .fields) (header file) (records file))
+
+unfoldable pub contents : Profile → List ℕ → Verdict
+contents profile file = firstNo (contentsQuestions profile file)
+
+-- The orders of a file whose questions are answered yes: a line each, its amount and its fault.
+unfoldable pub orderOf : List ℕ → Order
+orderOf line = record { amount = record { 0 = amountIn line }; fault = faultOf line }
+
+unfoldable pub orders : List ℕ → List Order
+orders file = map orderOf (records file)
+
+-- "An accepted file answers its order count and its faulty count."
+unfoldable pub faultyCount : List Order → ℕ
+faultyCount [] = 0
+faultyCount (order ∷ orders) = cond (eqb (order .fault) 0) 0 1 + faultyCount orders
+
+unfoldable pub judgedOf : Verdict → List Order → Judged
+judgedOf Passed os = Accepted (length os) (faultyCount os)
+judgedOf (Refused n) os = NotAccepted n

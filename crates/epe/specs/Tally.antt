@@ -1,0 +1,66 @@
+-- What one look at a record line tells, and the tally that a walk over the records keeps.
+use mathlib.Core.Path.{_≡_}
+use mathlib.Core.Bool.{Bool, true, cond, _&&_}
+use mathlib.Core.List.{List, [], _∷_, _++_, map}
+use Prim.Native.Nat.{ℕ, _+_, _*_, _≤_}
+use lib.Dec.{eqb, leb, ltb}
+use lib.ListN.{length}
+use Rattle.epe.specs.Contents.{dateQuestions, statedQuestions, statedCount, statedSum, shaped, allShaped, allPriced, total, orderOf, faultyCount}
+use Rattle.money.specs.Money.{orderCap}
+use Rattle.calendar.specs.declared.date.Date.{Date}
+use Rattle.epe.specs.Questions.{firstNo}
+use Rattle.epe.specs.declared.file.Judged.{Judged}
+use Rattle.epe.specs.declared.file.Judged.the-variants.{Accepted, Refused as NotAccepted}
+use Rattle.epe.specs.declared.file.Stated.{Stated}
+use Rattle.epe.specs.declared.file.Tally.{Tally}
+use Rattle.epe.specs.declared.record.Order.{Order}
+use Rattle.epe.specs.declared.record.RecordRead.{RecordRead}
+
+-- What one look at a record line tells: its shape, its order, and that no amount is above an order's cap.
+-- No profile asks for more than 32 fields; for more the answer is that the line is not in shape.
+pub record RecordOf (r n : ℕ) (line : List ℕ) (read : RecordRead) : Type 0 where
+  pub its-shape : read .shaped ≡ (leb r 32 && shaped r n line)
+  pub its-order : read .order ≡ orderOf line
+  pub within-cap : read .order .amount .0 ≤ orderCap
+
+-- One order more.
+unfoldable pub added : Tally → Order → Tally
+added tally order = record {
+  shaped = tally .shaped;
+  priced = tally .priced && ltb 0 (order .amount .0);
+  count = tally .count + 1;
+  sum = tally .sum + order .amount .0;
+  faulty = tally .faulty + cond (eqb (order .fault) 0) 0 1;
+}
+
+-- The tally of some record lines: whether all are shaped and, where they are, what they come to.
+pub record Tallied (fields : ℕ) (lines : List (List ℕ)) (tally : Tally) : Type 0 where
+  pub shape : tally .shaped ≡ allShaped fields 1 lines
+  pub prices : tally .shaped ≡ true → tally .priced ≡ allPriced lines
+  pub counted : tally .shaped ≡ true → tally .count ≡ length lines
+  pub summed : tally .shaped ≡ true → tally .sum ≡ total lines
+  pub faults : tally .shaped ≡ true → tally .faulty ≡ faultyCount (map orderOf lines)
+
+-- What is added stays within 64 bits.
+pub record Small (tally : Tally) (order : Order) : Type 0 where
+  pub few : tally .count ≤ 999_999
+  pub little : tally .sum ≤ tally .count * 999_999_999
+  pub fewer : tally .faulty ≤ tally .count
+  pub bounded : order .amount .0 ≤ 999_999_999
+
+-- What a header states, and what its questions 102 to 131 come to.
+pub record StatedOf (today : Date) (line : List ℕ) (stated : Stated) : Type 0 where
+  pub judged : stated .verdict ≡ firstNo (dateQuestions today line ++ statedQuestions line)
+  pub counted : stated .count ≡ statedCount line
+  pub summed : stated .sum ≡ statedSum line
+
+-- What a tally comes to beside what the header states: the questions 901, 902, 129, 132.
+unfoldable pub tallyJudged : Tally → ℕ → ℕ → Judged
+tallyJudged tally count sum =
+    cond (tally .shaped)
+    (cond (tally .priced)
+    (cond (eqb (tally .count) count)
+    (cond (eqb (tally .sum) sum) (Accepted (tally .count) (tally .faulty)) (NotAccepted 132))
+    (NotAccepted 129))
+    (NotAccepted 902))
+    (NotAccepted 901)
