@@ -1,55 +1,74 @@
-// What the library does today, on the texts and dates of document 01's ZS1, lines 9 to 12: each is read and said again.
+// What the library does today: the order file of document 01's shipment ZS1 is judged and its orders are taken one after the other.
 use calendar::date::Date;
-use calendar::date::DateRead;
+use epe::file::Judged;
+use epe::profile::Profile;
+use epe::record::Order;
+use epe::verdict::Verdict;
 use libc::STDOUT_FILENO;
-use money::Amount;
-use money::AmountRead;
 
-// Says what a text reads as an order's amount.
-fn say_amount(text: &[u8]) {
+// Writes a text and a number, and ends the line.
+fn say(text: &[u8], n: u64) {
     io::write_all(STDOUT_FILENO, text);
-    match Amount::read_order(text) {
-        AmountRead::Is(amount) => {
-            io::write_all(STDOUT_FILENO, b" reads ");
-            io::print_decimal(STDOUT_FILENO, amount.0);
-            io::write_all(STDOUT_FILENO, b" grosze\n");
-        }
-        AmountRead::Not => {
-            io::write_all(STDOUT_FILENO, b" is no amount\n");
-        }
+    io::print_decimal(STDOUT_FILENO, n);
+    io::write_all(STDOUT_FILENO, b"\n");
+}
+
+// Says what the opening of a file comes to.
+fn say_opening(name: &[u8], file: &[u8]) {
+    let opening = epe::file::open(name, file);
+    let verdict = opening.verdict;
+    match verdict {
+        Verdict::Passed => say(b"opening passed, benefit date ", opening.name.date.0),
+        Verdict::Refused(number) => say(b"opening refused with ", number),
     }
 }
 
-// Says whether a date lies from `before` days before to `after` days after today.
-fn say_date(text: &[u8], today: Date, before: u64, after: u64) {
-    io::write_all(STDOUT_FILENO, text);
-    let date = calendar::date::read_digits(text);
-    if calendar::date::read_in_window(date, today, before, after) {
-        io::write_all(STDOUT_FILENO, b" passes\n");
-    } else {
-        io::write_all(STDOUT_FILENO, b" does not pass\n");
+// Says an order.
+fn say_order(order: Order) {
+    say(b"order of grosze ", order.amount.0);
+    say(b"  first fault (0: none) ", order.fault);
+}
+
+// Says the orders of a file, from the first on.
+fn say_orders(file: &[u8], orders: u64) {
+    let mut at = epe::file::first_order(file);
+    let mut left = orders;
+    while 0 < left {
+        let taken = epe::file::take_order(file, at);
+        let order = taken.order;
+        say_order(order);
+        at = taken.next;
+        left -= 1;
+    }
+}
+
+// Says what the contents of a file come to.
+fn say_contents(profile: Profile, file: &[u8]) {
+    match epe::file::judge_contents(profile, file) {
+        Judged::Accepted(orders, faulty) => {
+            say(b"contents accepted, orders ", orders);
+            say(b"faulty ", faulty);
+            say_orders(file, orders);
+        }
+        Judged::Refused(number) => say(b"contents refused with ", number),
     }
 }
 
 fn main() {
-    say_amount(b"9999999.99");
-    say_amount(b"0.01");
-    say_amount(b"1.5");
-    let today = Date(20201007);
-    io::write_all(
-        STDOUT_FILENO,
-        b"created, 60 days before to 10 days after 20201007:\n",
-    );
-    say_date(b"20200807", today, 60, 10);
-    say_date(b"20200808", today, 60, 10);
-    say_date(b"20201017", today, 60, 10);
-    say_date(b"20201018", today, 60, 10);
-    io::write_all(
-        STDOUT_FILENO,
-        b"benefit date, 30 days before to 30 days after 20201007:\n",
-    );
-    say_date(b"20200906", today, 30, 30);
-    say_date(b"20200907", today, 30, 30);
-    say_date(b"20201106", today, 30, 30);
-    say_date(b"20201107", today, 30, 30);
+    let name = b"EPEZZS1-201007-A-0";
+    let descriptor = os::open_read(name);
+    if descriptor < 0 {
+        os::fail(name);
+        return;
+    }
+    let mut buffer = [0u8; 4096];
+    let length = io::read_full(descriptor, &mut buffer);
+    libc::close(descriptor);
+    let profile = Profile {
+        today: Date(20201007),
+        fees: [350, 350, 350, 350, 350],
+        fields: 19,
+    };
+    say_opening(name, &buffer[..length]);
+    say_contents(profile, &buffer[..length]);
 }
