@@ -1,0 +1,117 @@
+-- The book and one step of it: the questions in order, the next book, the answer. Document 01, "The book".
+use mathlib.Core.Bool.{Bool, true, false, cond, _&&_}
+use mathlib.Core.List.{List, [], _∷_, _++_, map}
+use mathlib.Core.Option.{Option, some, none}
+use Prim.Native.Nat.{ℕ, _+_}
+use lib.Dec.{leb, ltb, eqb}
+use lib.ListN.{length, getD}
+use Rattle.text.specs.Bytes.{between}
+use Rattle.money.specs.Money.{sumCap}
+use Rattle.epe.specs.Ident.{sameIdent}
+use Rattle.epe.specs.Name.{nameOf, titleOf}
+use Rattle.epe.specs.Opening.{opening}
+use Rattle.epe.specs.Contents.{contents, orders, faultyCount}
+use Rattle.epe.specs.Profile.{profileFits}
+use Rattle.epe.specs.Questions.{isPassed}
+use Rattle.epe.specs.declared.ident.Ident.{Ident}
+use Rattle.epe.specs.declared.name.Name.{Name}
+use Rattle.epe.specs.declared.profile.Profile.{Profile}
+use Rattle.epe.specs.declared.record.Order.{Order}
+use Rattle.epe.specs.declared.verdict.Verdict.{Verdict}
+use Rattle.epe.specs.declared.verdict.Verdict.the-variants.{Passed, Refused as No}
+use Rattle.model.specs.Shipment.{Shipment, sum}
+use Rattle.model.specs.Calls.{Call, Intake, Transfer, On, Answer, Refused, Accepted, Outcome, transferred, acted}
+use Rattle.model.specs.declared.Row.{Row}
+use Rattle.model.specs.declared.Stage.the-variants.{Waiting}
+use Rattle.model.specs.declared.State.the-variants.{Open, Faulty}
+
+-- "Up to 32 shipments in order of intake."
+abbrev pub Book : Type 0
+Book = List Shipment
+
+-- What a call leaves of the book, and its answer.
+pub record Step : Type 0 where
+  pub book : Book
+  pub answer : Answer
+
+abbrev pub stay : Answer → Book → Step
+stay answer book = record { book = book; answer = answer }
+
+-- A question on the book: "no" answers its number and leaves it as it was.
+unfoldable pub inquire : Bool → ℕ → Book → Step → Step
+inquire true number book next = next
+inquire false number book next = stay (Refused number) book
+
+-- Questions of the file that were asked already: a "no" answers its number.
+unfoldable pub unlessRefused : Verdict → Book → Step → Step
+unlessRefused Passed book next = next
+unlessRefused (No number) book next = stay (Refused number) book
+
+-- The first shipment that fits takes the call; where none does, 13.
+abbrev pub onFirst : (Shipment → Bool) → (Shipment → Outcome) → Book → Step
+onFirst is does [] = stay (Refused 13) []
+onFirst is does (s ∷ book) =
+    cond (is s) (record { book = does s .shipment ∷ book; answer = does s .answer })
+    (record { book = s ∷ onFirst is does book .book; answer = onFirst is does book .answer })
+
+abbrev pub isCalled : Ident → Shipment → Bool
+isCalled ident s = sameIdent ident (s .name .ident)
+
+-- "Name in the book" compares the whole name: identifier, date, A or B, and kind.
+unfoldable pub sameName : Name → Name → Bool
+sameName a b =
+    sameIdent (a .ident) (b .ident)
+    && (eqb (a .date .0) (b .date .0) && (eqb (a .payment) (b .payment) && eqb (a .kind) (b .kind)))
+
+abbrev pub find : Ident → Book → Option Shipment
+find ident [] = none
+find ident (s ∷ book) = cond (isCalled ident s) (some s) (find ident book)
+
+abbrev pub isUnknown : Ident → Book → Bool
+isUnknown ident [] = true
+isUnknown ident (s ∷ book) = cond (isCalled ident s) false (isUnknown ident book)
+
+abbrev pub rowsIn : Book → ℕ
+rowsIn book = sum (λ (s : Shipment). length (s .rows)) book
+
+-- "Intake adds a shipment that is Waiting, without go-ahead or money, its orders Open or Faulty with both moneys waiting."
+abbrev pub enteredRow : Order → Row
+enteredRow order = record { amount = order .amount; state = cond (eqb (order .fault) 0) Open (Faulty (order .fault) true true) }
+
+unfoldable pub entered : Profile → Name → List Order → Shipment
+entered profile name orders = record {
+  name = name;
+  fee = getD (profile .fees) (name .kind) 0;
+  stage = Waiting;
+  goAhead = false;
+  acceptedK = 0;
+  acceptedO = 0;
+  returnedK = 0;
+  returnedO = 0;
+  rows = map enteredRow orders;
+}
+
+-- "Profile within the ranges above? 905", the opening, "Identifier not yet in the book? 101", the contents,
+-- "Fewer than 32 shipments in the book? 903", "Its orders fit with those present in 2,048 rows? 904".
+unfoldable pub takenIn : Profile → List ℕ → List ℕ → Book → Step
+takenIn profile name file book =
+    inquire (profileFits profile) 905 book
+    (unlessRefused (opening name file) book
+    (inquire (isUnknown (nameOf name .ident) book) 101 book
+    (unlessRefused (contents profile file) book
+    (inquire (ltb (length book) 32) 903 book
+    (inquire (leb (rowsIn book + length (orders file)) 2048) 904 book
+    (stay (Accepted (length (orders file)) (faultyCount (orders file))) (book ++ (entered profile (nameOf name) (orders file) ∷ []))))))))
+
+-- "Transfer (title, amount): title is a shipment name in the form above, then `-K` or `-O`? 11. Amount 1 to 9,999,999,999,999? 12.
+-- Name in the book? 13. Total accepted for that money still at most 9,999,999,999,999? 14."
+unfoldable pub transferredIn : List ℕ → ℕ → Book → Step
+transferredIn title amount book =
+    unlessRefused (titleOf title .verdict) book
+    (inquire (between 1 sumCap amount) 12 book
+    (onFirst (λ (s : Shipment). sameName (titleOf title .name) (s .name)) (transferred (titleOf title .money) amount) book))
+
+unfoldable pub step : Book → Call → Step
+step book (Intake profile name file) = takenIn profile name file book
+step book (Transfer title amount) = transferredIn title amount book
+step book (On ident act) = onFirst (isCalled ident) (acted act) book

@@ -1,0 +1,6 @@
+pub mod Shipment
+pub mod Calls
+pub mod Book
+pub mod Sound
+pub mod Demand
+pub mod Zs1

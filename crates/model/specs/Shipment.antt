@@ -1,0 +1,136 @@
+-- A shipment and its orders, and what they come to in either money. Document 01, "The book".
+use mathlib.Core.Bool.{Bool, true, false, cond, _&&_, _||_}
+use mathlib.Core.List.{List, [], _∷_}
+use Prim.Native.Nat.{ℕ, _+_, _*_, _-_}
+use lib.Dec.{leb, ltb, eqb}
+use lib.ListN.{length}
+use Rattle.money.specs.declared.Money.{Money}
+use Rattle.money.specs.declared.Money.the-variants.{K, O}
+use Rattle.epe.specs.declared.name.Name.{Name}
+use Rattle.model.specs.declared.Row.{Row}
+use Rattle.model.specs.declared.Stage.{Stage}
+use Rattle.model.specs.declared.Stage.the-variants.{Waiting, Paired, Closed}
+use Rattle.model.specs.declared.State.{State}
+use Rattle.model.specs.declared.State.the-variants.{Open, Posted, Paid, Faulty, Undelivered, Withdrawn}
+
+-- What is meant for K, or for O.
+abbrev pub of {ℓ} : {A : Type ℓ} → Money → A → A → A
+of K k o = k
+of O k o = o
+
+-- "A shipment has its name parts, fee F (the profile's for its kind), stage Waiting, Paired or Closed, whether a go-ahead (OBS) came,
+-- transfers accepted per money, and surplus returned per money." And its orders, in the order of the file.
+pub record Shipment : Type 0 where
+  pub name : Name
+  pub fee : ℕ
+  pub stage : Stage
+  pub goAhead : Bool
+  pub acceptedK : ℕ
+  pub acceptedO : ℕ
+  pub returnedK : ℕ
+  pub returnedO : ℕ
+  pub rows : List Row
+
+abbrev pub accepted : Money → Shipment → ℕ
+accepted money s = of money (s .acceptedK) (s .acceptedO)
+
+abbrev pub returned : Money → Shipment → ℕ
+returned money s = of money (s .returnedK) (s .returnedO)
+
+abbrev pub isWaiting : Stage → Bool
+isWaiting Waiting = true
+isWaiting Paired = false
+isWaiting Closed = false
+
+abbrev pub isPaired : Stage → Bool
+isPaired Waiting = false
+isPaired Paired = true
+isPaired Closed = false
+
+-- n where a test holds, else nothing; and a sum over a list.
+abbrev pub when : Bool → ℕ → ℕ
+when true n = n
+when false n = 0
+
+abbrev pub sum {ℓ} : {A : Type ℓ} → (A → ℕ) → List A → ℕ
+sum f [] = 0
+sum f (a ∷ l) = f a + sum f l
+
+-- The states, each by itself.
+abbrev pub isOpen : State → Bool
+isOpen Open = true
+isOpen Posted = false
+isOpen Paid = false
+isOpen (Faulty fault k o) = false
+isOpen (Undelivered k) = false
+isOpen (Withdrawn k o) = false
+
+abbrev pub isPosted : State → Bool
+isPosted Open = false
+isPosted Posted = true
+isPosted Paid = false
+isPosted (Faulty fault k o) = false
+isPosted (Undelivered k) = false
+isPosted (Withdrawn k o) = false
+
+abbrev pub isFaulty : State → Bool
+isFaulty Open = false
+isFaulty Posted = false
+isFaulty Paid = false
+isFaulty (Faulty fault k o) = true
+isFaulty (Undelivered k) = false
+isFaulty (Withdrawn k o) = false
+
+abbrev pub isUndelivered : State → Bool
+isUndelivered Open = false
+isUndelivered Posted = false
+isUndelivered Paid = false
+isUndelivered (Faulty fault k o) = false
+isUndelivered (Undelivered k) = true
+isUndelivered (Withdrawn k o) = false
+
+abbrev pub isWithdrawn : State → Bool
+isWithdrawn Open = false
+isWithdrawn Posted = false
+isWithdrawn Paid = false
+isWithdrawn (Faulty fault k o) = false
+isWithdrawn (Undelivered k) = false
+isWithdrawn (Withdrawn k o) = true
+
+-- Whether a money of the order still waits to be returned.
+abbrev pub waits : Money → State → Bool
+waits money Open = false
+waits money Posted = false
+waits money Paid = false
+waits money (Faulty fault k o) = of money k o
+waits money (Undelivered k) = of money k false
+waits money (Withdrawn k o) = of money k o
+
+-- What an order is worth: its amount in K, F in O.
+abbrev pub worth : Money → ℕ → Row → ℕ
+worth money fee row = of money (row .amount .0) fee
+
+-- "Need: K is the sum of all amounts, faulty ones too; O is order count times F."
+unfoldable pub need : Money → Shipment → ℕ
+need K s = sum (λ (row : Row). row .amount .0) (s .rows)
+need O s = length (s .rows) * s .fee
+
+abbrev pub needOncePaired : Money → Shipment → ℕ
+needOncePaired money s = when (isPaired (s .stage)) (need money s)
+
+-- "Free money is transfers accepted, less the need once Paired, less surplus returned."
+unfoldable pub free : Money → Shipment → ℕ
+free money s = accepted money s - needOncePaired money s - returned money s
+
+-- "In a Paired shipment an order holds K while Open or Posted or while its K waits, and O while Open or while its O waits."
+abbrev pub holds : Money → State → Bool
+holds K state = isOpen state || (isPosted state || waits K state)
+holds O state = isOpen state || waits O state
+
+-- "In other stages orders hold nothing."
+unfoldable pub held : Money → Shipment → ℕ
+held money s = when (isPaired (s .stage)) (sum (λ (row : Row). when (holds money (row .state)) (worth money (s .fee) row)) (s .rows))
+
+unfoldable pub anyFaulty : List Row → Bool
+anyFaulty [] = false
+anyFaulty (row ∷ rows) = isFaulty (row .state) || anyFaulty rows

@@ -1,0 +1,80 @@
+-- "Sound means: .. every name part in its form, every number in its range, an order in each shipment, identifiers all different, .. states other
+-- than Open and Faulty only when Paired, both moneys of a Faulty order waiting unless Paired, go-ahead only with faults, Paired with faults only
+-- after a go-ahead, and transfers accepted are at least surplus returned plus, when Paired, the need. Surplus returned is zero while Waiting."
+-- That the memory is long enough and the orders' parts follow one another are matters of lent memory; a plain book has them by its form.
+use mathlib.Core.Path.{_≡_}
+use mathlib.Core.Bool.{Bool, true, false, not, _&&_, _||_}
+use mathlib.Core.List.{List, [], _∷_}
+use Prim.Native.Nat.{ℕ, _+_}
+use lib.Dec.{leb, eqb}
+use lib.ListN.{length}
+use Rattle.text.specs.Bytes.{between}
+use Rattle.money.specs.Money.{orderCap, sumCap}
+use Rattle.money.specs.declared.Money.{Money}
+use Rattle.money.specs.declared.Money.the-variants.{K, O}
+use Rattle.epe.specs.Name.{nameInForm}
+use Rattle.model.specs.Shipment.{Shipment, accepted, returned, isWaiting, isPaired, needOncePaired, anyFaulty}
+use Rattle.model.specs.Calls.{Call}
+use Rattle.model.specs.Book.{Book, isUnknown, rowsIn, step}
+use Rattle.model.specs.declared.Row.{Row}
+use Rattle.model.specs.declared.Stage.{Stage}
+use Rattle.model.specs.declared.State.{State}
+use Rattle.model.specs.declared.State.the-variants.{Open, Posted, Paid, Faulty, Undelivered, Withdrawn}
+
+-- A fault is 1 to 10.
+abbrev pub faultInRange : State → Bool
+faultInRange Open = true
+faultInRange Posted = true
+faultInRange Paid = true
+faultInRange (Faulty fault k o) = between 1 10 fault
+faultInRange (Undelivered k) = true
+faultInRange (Withdrawn k o) = true
+
+-- "States other than Open and Faulty only when Paired, both moneys of a Faulty order waiting unless Paired."
+abbrev pub beforePairing : State → Bool
+beforePairing Open = true
+beforePairing Posted = false
+beforePairing Paid = false
+beforePairing (Faulty fault k o) = k && o
+beforePairing (Undelivered k) = false
+beforePairing (Withdrawn k o) = false
+
+unfoldable pub rowSound : Stage → Row → Bool
+rowSound stage row =
+    between 1 orderCap (row .amount .0)
+    && (faultInRange (row .state) && (isPaired stage || beforePairing (row .state)))
+
+unfoldable pub rowsSound : Stage → List Row → Bool
+rowsSound stage [] = true
+rowsSound stage (row ∷ rows) = rowSound stage row && rowsSound stage rows
+
+-- Accepted and returned are sums, and "transfers accepted are at least surplus returned plus, when Paired, the need".
+unfoldable pub moneySound : Money → Shipment → Bool
+moneySound money s =
+    leb (accepted money s) sumCap
+    && (leb (returned money s) sumCap
+    && (leb (returned money s + needOncePaired money s) (accepted money s)
+    && (not (isWaiting (s .stage)) || eqb (returned money s) 0)))
+
+unfoldable pub shipmentSound : Shipment → Bool
+shipmentSound s =
+    nameInForm (s .name)
+    && (leb (s .fee) orderCap
+    && (leb 1 (length (s .rows))
+    && (rowsSound (s .stage) (s .rows)
+    && ((not (s .goAhead) || anyFaulty (s .rows))
+    && ((not (isPaired (s .stage) && anyFaulty (s .rows)) || s .goAhead)
+    && (moneySound K s && moneySound O s))))))
+
+unfoldable pub shipmentsSound : Book → Bool
+shipmentsSound [] = true
+shipmentsSound (s ∷ book) = shipmentSound s && (isUnknown (s .name .ident) book && shipmentsSound book)
+
+-- "Up to 32 shipments", and 2,048 rows in all.
+unfoldable pub sound : Book → Bool
+sound book = leb (length book) 32 && (leb (rowsIn book) 2048 && shipmentsSound book)
+
+-- Every step from a sound book leaves a sound one, and the empty book is sound: so a book begun empty is always sound.
+pub record StaysSound : Type 0 where
+  pub begins : sound [] ≡ true
+  pub keeps : (book : Book) (call : Call) → sound book ≡ true → sound (step book call .book) ≡ true
