@@ -1,4 +1,4 @@
--- Bytes by themselves: digits, letters, equality of two texts.
+-- Bytes: digits and letters, parts of a text, equality of two texts, and where a byte stands.
 use mathlib.Core.Bool.{Bool, true, false, cond, _&&_, _||_}
 use mathlib.Core.List.{List, [], _∷_}
 use Prim.Native.Nat.{ℕ, suc, _-_}

@@ -1,4 +1,4 @@
-// Bytes by themselves: digits, letters, equality of two texts.
+// Bytes: digits and letters, parts of a text, equality of two texts, and a byte looked for.
 ghost use mathlib.Core.Path.{_≡_};
 ghost use mathlib.Core.Bool.{_||_};
 ghost use Prim.Native.Nat.{min, _+_, _≤_};
@@ -124,7 +124,7 @@ pub fn has_byte(s: &[u8], b: u8) -> bool
     found
 }
 
-// A place from which on b comes next where it comes next from the given place, past all blocks of 32 bytes without it.
+// A place at or behind the given one, with no b between them: whole blocks of 32 bytes without b are passed.
 fn skip_blocks(s: &[u8], b: u8, from: usize) -> usize
     requires { ⌜ from ≤ length (now s) ⌝ }
     ensures { λ r. ⌜ (r ≤ length (now (s .entry))) × (r + before b (drop r (now (s .entry))) ≡ from + before b (drop from (now (s .entry)))) ⌝ }
@@ -140,7 +140,7 @@ fn skip_blocks(s: &[u8], b: u8, from: usize) -> usize
     i
 }
 
-// Where b comes next from a place on, or the end of the text.
+// Where b comes next from a place on, or the end of the text; a place past the end is its own answer.
 pub fn find(s: &[u8], b: u8, from: usize) -> usize
     ensures { λ r. ⌜ r ≡ from + before b (drop from (now (s .entry))) ⌝ }
 {

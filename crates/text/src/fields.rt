@@ -1,11 +1,11 @@
 // Fields of a text at a separator: one pass notes where the separators stand, and each field is then found without another.
 ghost use mathlib.Core.Path.{_≡_};
 ghost use mathlib.Core.Bool.{cond};
-ghost use mathlib.Core.List.{[], _++_};
-ghost use Prim.Native.Nat.{ℕ, _-_, _≤_, _<_};
+ghost use mathlib.Core.List.{_++_};
+ghost use Prim.Native.Nat.{_-_, _≤_};
 ghost use lib.Dec.{eqb, ltb};
 ghost use lib.ListN.{length, getD, take, replicate};
-ghost use Rattle.text.specs.Fields.{fields, cuts, cutTable, cutCount, fieldBy};
+ghost use Rattle.text.specs.Fields.{cuts, cutTable, cutCount, fieldBy};
 use crate::bytes::slice;
 
 // 1 where two bytes are equal, else 0.
