@@ -1,5 +1,5 @@
 -- What a verdict says of its questions, and questions asked one after the other.
---     all-yes, refused-by        the two promises of `Questions`
+--     all-yes, refused-by        the two promises of `Questions`; all-yes-passed is the way back
 --     none-asked, next           the verdict of a function that asks its questions in order, a `next` for each
 -- Assumes nothing.
 use mathlib.Core.Path.{_≡_, refl, sym, _∙_, ap}
@@ -8,7 +8,7 @@ use mathlib.Core.List.{List, [], _∷_, _++_}
 use Prim.Native.Nat.{ℕ}
 use native.Mathlib.Omega.{arith}
 use Rattle.text.proofs.Branches.{either-way}
-use Rattle.epe.specs.Questions.{Question, _⇒_, firstNo, askedNext, RefusedBy, AcceptedIsAllYes, RefusedIsFirstNo}
+use Rattle.epe.specs.Questions.{Question, _⇒_, AllYes, firstNo, askedNext, RefusedBy, AcceptedIsAllYes, RefusedIsFirstNo}
 use Rattle.epe.specs.declared.verdict.Verdict.{Verdict}
 use Rattle.epe.specs.declared.verdict.Verdict.the-variants.{Passed, Refused}
 
@@ -22,6 +22,20 @@ all-yes (q ∷ qs) accepted =
     either-way (q .yes?)
     (λ (said : q .yes? ≡ true). (said, all-yes qs (rw said at accepted)))
     (λ (refusing : q .yes? ≡ false). absurd (never (rw refusing at accepted)))
+
+pub all-yes-passed : (qs : List Question) → AllYes qs → firstNo qs ≡ Passed
+unfolding firstNo
+all-yes-passed [] h = refl
+all-yes-passed (q ∷ qs) h = rw (h .0) (all-yes-passed qs (h .1))
+
+-- the parts of a list of which all are answered yes
+pub yes-before : (ps qs : List Question) → AllYes (ps ++ qs) → AllYes ps
+yes-before [] qs h = tt
+yes-before (p ∷ ps) qs h = (h .0, yes-before ps qs (h .1))
+
+pub yes-behind : (ps qs : List Question) → AllYes (ps ++ qs) → AllYes qs
+yes-behind [] qs h = h
+yes-behind (p ∷ ps) qs h = yes-behind ps qs (h .1)
 
 -- a question answered yes before those of a refused list
 after-yes : (q : Question) {qs : List Question} {n : ℕ} → q .yes? ≡ true → RefusedBy qs n → RefusedBy (q ∷ qs) n
