@@ -12,7 +12,6 @@ use Rattle.epe.specs.Name.{nameOf, titleOf}
 use Rattle.epe.specs.Opening.{opening}
 use Rattle.epe.specs.Contents.{contents, orders, faultyCount}
 use Rattle.epe.specs.Profile.{profileFits}
-use Rattle.epe.specs.Questions.{isPassed}
 use Rattle.epe.specs.declared.ident.Ident.{Ident}
 use Rattle.epe.specs.declared.name.Name.{Name}
 use Rattle.epe.specs.declared.profile.Profile.{Profile}

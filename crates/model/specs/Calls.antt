@@ -10,7 +10,7 @@ use Rattle.money.specs.declared.Money.{Money}
 use Rattle.money.specs.declared.Money.the-variants.{K, O}
 use Rattle.epe.specs.declared.ident.Ident.{Ident}
 use Rattle.epe.specs.declared.profile.Profile.{Profile}
-use Rattle.model.specs.Shipment.{of, Shipment, accepted, returned, isWaiting, isPaired, when, sum, isOpen, isPosted, isFaulty, isUndelivered, isWithdrawn}
+use Rattle.model.specs.Shipment.{of, Shipment, accepted, isWaiting, isPaired, when, sum, isOpen, isPosted, isFaulty, isUndelivered, isWithdrawn}
 use Rattle.model.specs.Shipment.{waits, worth, need, free, anyFaulty}
 use Rattle.model.specs.declared.Route.{Route}
 use Rattle.model.specs.declared.Route.the-variants.{Zwr, Opr, Zpr, Zzr}

@@ -4,7 +4,7 @@
 -- the rise in money its orders hold, plus the rise in its free money, plus all that left by payout, earned fee and the four returns. No free money is
 -- ever below zero, and no order's money leaves twice or in part. Refused calls and calls for other shipments move none of these numbers."
 use mathlib.Core.Path.{_≡_}
-use mathlib.Core.Bool.{Bool, true, false, not, cond, _&&_}
+use mathlib.Core.Bool.{Bool, true, false, not, _&&_}
 use mathlib.Core.List.{List, [], _∷_}
 use mathlib.Core.Option.{Option, some, none}
 use Prim.Native.Nat.{ℕ, zero, suc, _+_, _-_, _≤_}
@@ -16,9 +16,9 @@ use Rattle.epe.specs.Ident.{sameIdent}
 use Rattle.epe.specs.Name.{nameOf, titleOf}
 use Rattle.epe.specs.declared.ident.Ident.{Ident}
 use Rattle.model.specs.Shipment.{of, Shipment, accepted, returned, when, sum, waits, worth, needOncePaired, free, held}
-use Rattle.model.specs.Calls.{Act, GoAhead, Pair, Close, OnOrder, Return, Call, Intake, Transfer, On, noOrder, waiting}
+use Rattle.model.specs.Calls.{GoAhead, Pair, Close, OnOrder, Return, Call, Intake, Transfer, On, noOrder, waiting}
 use Rattle.model.specs.Calls.{Answer, Refused, Done, Accepted, IsPaired, Short, FeeEarned, AmountPaid, Returned, isRefusal}
-use Rattle.model.specs.Book.{Book, Step, find, step}
+use Rattle.model.specs.Book.{Book, find, step}
 use Rattle.model.specs.declared.Route.{Route}
 use Rattle.model.specs.declared.Route.the-variants.{Zwr, Opr, Zpr, Zzr}
 use Rattle.model.specs.declared.Row.{Row}

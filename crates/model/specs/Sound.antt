@@ -16,6 +16,7 @@ use Rattle.epe.specs.Name.{nameInForm}
 use Rattle.model.specs.Shipment.{Shipment, accepted, returned, isWaiting, isPaired, needOncePaired, anyFaulty}
 use Rattle.model.specs.Calls.{Call}
 use Rattle.model.specs.Book.{Book, isUnknown, rowsIn, step}
+use Rattle.model.specs.Demand.{bookAt}
 use Rattle.model.specs.declared.Row.{Row}
 use Rattle.model.specs.declared.Stage.{Stage}
 use Rattle.model.specs.declared.State.{State}
@@ -74,7 +75,11 @@ shipmentsSound (s ∷ book) = shipmentSound s && (isUnknown (s .name .ident) boo
 unfoldable pub sound : Book → Bool
 sound book = leb (length book) 32 && (leb (rowsIn book) 2048 && shipmentsSound book)
 
--- Every step from a sound book leaves a sound one, and the empty book is sound: so a book begun empty is always sound.
+-- The empty book is sound, and every step from a sound book leaves a sound one.
 pub record StaysSound : Type 0 where
   pub begins : sound [] ≡ true
   pub keeps : (book : Book) (call : Call) → sound book ≡ true → sound (step book call .book) ≡ true
+
+-- So a book begun empty is always sound: for every list of calls from the empty book, the book at every point of the list is sound.
+abbrev pub AlwaysSound : Type 0
+AlwaysSound = (calls : List Call) (point : ℕ) → sound (bookAt calls point) ≡ true

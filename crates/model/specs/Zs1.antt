@@ -5,7 +5,6 @@ use Prim.Native.Nat.{ℕ}
 use Prim.Native.String.{String}
 use Rattle.text.specs.Quoted.{bytes}
 use Rattle.money.specs.Text.{orderText}
-use Rattle.money.specs.declared.AmountRead.{AmountRead}
 use Rattle.money.specs.declared.AmountRead.the-variants.{Is, Not}
 use Rattle.money.specs.declared.Money.{Money}
 use Rattle.money.specs.declared.Money.the-variants.{K, O}
@@ -15,7 +14,7 @@ use Rattle.epe.specs.declared.profile.Profile.{Profile}
 use Rattle.model.specs.Shipment.{need, sum}
 use Rattle.model.specs.Calls.{Post, Pay, Withdraw, GoAhead, Pair, OnOrder, Return, Call, Intake, Transfer, On}
 use Rattle.model.specs.Calls.{Answer, Refused, Done, Accepted, IsPaired, Short, FeeEarned, AmountPaid, Returned}
-use Rattle.model.specs.Book.{Book, find, step}
+use Rattle.model.specs.Book.{find, step}
 use Rattle.model.specs.Demand.{Event, bookAt, between, ofShipment, heldIn, freeIn, leftFor}
 use Rattle.model.specs.declared.Route.the-variants.{Zwr, Opr, Zzr}
 

@@ -1,0 +1,265 @@
+-- A book begun empty is always sound: every step from a sound book leaves a sound book.
+-- Assumes nothing.
+use mathlib.Core.Path.{_≡_, refl, _∙_, ap}
+use mathlib.Core.Bool.{Bool, true, false, cond, _&&_, false≢true}
+use mathlib.Core.List.{List, [], _∷_, _++_, map}
+use Prim.Native.Nat.{ℕ, zero, suc, _+_, _≤_, _<_}
+use native.Mathlib.Omega.{arith}
+use borrow.Author.Tests.{leb-true, le-leb, ltb-true, eqb-false}
+use lib.Dec.{leb, ltb, eqb}
+use lib.ListN.{length, getD, take, length-append, length-map}
+use Rattle.text.specs.Bytes.{between}
+use Rattle.text.proofs.Branches.{both-yes, cond-either}
+use Rattle.money.specs.Money.{orderCap}
+use Rattle.money.specs.declared.Money.{Money}
+use Rattle.money.specs.declared.Money.the-variants.{K, O}
+use Rattle.epe.specs.Ident.{sameIdent}
+use Rattle.epe.specs.Name.{nameOf, nameQuestions, nameInForm, titleOf}
+use Rattle.epe.specs.Opening.{fileQuestions, fixedQuestions, repeatedQuestions, openingQuestions, opening}
+use Rattle.epe.specs.File.{header}
+use Rattle.epe.specs.Contents.{contents, orders}
+use Rattle.epe.specs.Accepted.{OrderInRange, EachInRange}
+use Rattle.epe.specs.Profile.{profileFits, feesFit}
+use Rattle.epe.specs.declared.ident.Ident.{Ident}
+use Rattle.epe.specs.declared.name.Name.{Name}
+use Rattle.epe.specs.declared.profile.Profile.{Profile}
+use Rattle.epe.specs.declared.record.Order.{Order}
+use Rattle.epe.specs.declared.verdict.Verdict.the-variants.{Passed}
+use Rattle.epe.proofs.AcceptedAsStated.{accepted-as-stated}
+use Rattle.epe.proofs.NameLaws.{parts-in-form}
+use Rattle.epe.proofs.QuestionLaws.{all-yes, all-yes-passed, yes-before, yes-behind}
+use Rattle.model.specs.Shipment.{Shipment}
+use Rattle.model.specs.Calls.{Call, Intake, Transfer, On, Refused, Outcome, transferred, acted}
+use Rattle.model.specs.Book.{Book, Step, stay, onFirst, isCalled, isUnknown, rowsIn}
+use Rattle.model.specs.Book.{enteredRow, entered, takenIn, step}
+use Rattle.model.specs.Sound.{faultInRange, beforePairing, rowSound, rowsSound, shipmentSound, shipmentsSound, sound, StaysSound, AlwaysSound}
+use Rattle.model.specs.Demand.{run}
+use Rattle.model.specs.declared.Stage.the-variants.{Waiting}
+use Rattle.model.specs.declared.State.{State}
+use Rattle.model.specs.declared.State.the-variants.{Open, Faulty}
+use Rattle.model.proofs.Asking.{inquire-either, verdict-either, transfer-either}
+use Rattle.model.proofs.Known.{same-back, unknown-first, unknown-rest, append-unknown}
+use Rattle.model.proofs.SoundParts.{halves, MoneyInOrder, InOrder, in-order, shipment-sound}
+use Rattle.model.proofs.ActsKeepSound.{Kept, transferred-kept, acted-kept}
+
+-- The parts of a sound book, and of one with a first shipment.
+record BookInOrder (book : Book) : Type 0 where
+  few : length book ≤ 32
+  rows-fit : rowsIn book ≤ 2048
+  shipments : shipmentsSound book ≡ true
+
+book-in-order : (book : Book) → sound book ≡ true → BookInOrder book
+unfolding sound
+book-in-order book h = record {
+  few = leb-true (length book) 32 (search halves);
+  rows-fit = leb-true (rowsIn book) 2048 (search halves);
+  shipments = search halves;
+}
+
+book-sound : (book : Book) → BookInOrder book → sound book ≡ true
+unfolding sound
+book-sound book h = both-yes _ _ (le-leb (length book) 32 (h .few)) (both-yes _ _ (le-leb (rowsIn book) 2048 (h .rows-fit)) (h .shipments))
+
+record FirstInOrder (s : Shipment) (book : Book) : Type 0 where
+  first : shipmentSound s ≡ true
+  known-once : isUnknown (s .name .ident) book ≡ true
+  rest : shipmentsSound book ≡ true
+
+first-in-order : (s : Shipment) (book : Book) → shipmentsSound (s ∷ book) ≡ true → FirstInOrder s book
+unfolding shipmentsSound
+first-in-order s book h = record { first = search halves; known-once = search halves; rest = search halves }
+
+first-sound : (s : Shipment) (book : Book) → FirstInOrder s book → shipmentsSound (s ∷ book) ≡ true
+unfolding shipmentsSound
+first-sound s book h = both-yes _ _ (h .first) (both-yes _ _ (h .known-once) (h .rest))
+
+-- What a call on one shipment leaves of the book.
+record BookKept (before : Book) (after : Step) : Type 0 where
+  shipments : shipmentsSound (after .book) ≡ true
+  as-many : length (after .book) ≡ length before
+  same-rows : rowsIn (after .book) ≡ rowsIn before
+  same-known : (ident : Ident) → isUnknown ident (after .book) ≡ isUnknown ident before
+
+-- the first that fits takes the call
+module _ (is : Shipment → Bool) (does : Shipment → Outcome) (keeps : (s : Shipment) → InOrder s → Kept s (does s)) where
+  first-kept : (book : Book) → shipmentsSound book ≡ true → BookKept book (onFirst is does book)
+  first-kept [] h = record { shipments = h; as-many = refl; same-rows = refl; same-known = λ ident. refl }
+  first-kept (s ∷ book) h =
+      let parts = first-in-order s book h in
+      let k = keeps s (in-order s (parts .first)) in
+      let r = first-kept book (parts .rest) in
+      cond-either (BookKept (s ∷ book)) (is s)
+      (record { book = does s .shipment ∷ book; answer = does s .answer })
+      (record { book = s ∷ onFirst is does book .book; answer = onFirst is does book .answer })
+      (λ e. record {
+        shipments = first-sound (does s .shipment) book (record {
+          first = shipment-sound (does s .shipment) (k .in-order);
+          known-once = ap (λ (name : Name). isUnknown (name .ident) book) (k .same-name) ∙ parts .known-once;
+          rest = parts .rest;
+        });
+        as-many = refl;
+        same-rows = ap (λ (n : ℕ). n + rowsIn book) (k .as-many);
+        same-known = λ ident. ap (λ (name : Name). cond (sameIdent ident (name .ident)) false (isUnknown ident book)) (k .same-name);
+      })
+      (λ e. record {
+        shipments = first-sound s (onFirst is does book .book) (record {
+          first = parts .first;
+          known-once = r .same-known (s .name .ident) ∙ parts .known-once;
+          rest = r .shipments;
+        });
+        as-many = ap suc (r .as-many);
+        same-rows = ap (λ (n : ℕ). length (s .rows) + n) (r .same-rows);
+        same-known = λ ident. ap (λ (t : Bool). cond (isCalled ident s) false t) (r .same-known ident);
+      })
+
+-- a name whose file opened is in form
+opened-in-form : (name file : List ℕ) → opening name file ≡ Passed → nameInForm (nameOf name) ≡ true
+unfolding opening openingQuestions
+opened-in-form name file h =
+    let behind = fixedQuestions (header file) ++ repeatedQuestions name (header file) in
+    let named = yes-behind (fileQuestions file) (nameQuestions name ++ behind) (all-yes (openingQuestions name file) h) in
+    parts-in-form name (all-yes-passed (nameQuestions name) (yes-before (nameQuestions name) behind named))
+
+-- a fee of a profile that fits
+fee-fits : (fees : List ℕ) (kind : ℕ) → feesFit fees ≡ true → getD fees kind 0 ≤ orderCap
+unfolding feesFit
+fee-fits [] kind h = omega arith
+fee-fits (fee ∷ fees) zero h = leb-true fee orderCap (search halves)
+fee-fits (fee ∷ fees) (suc kind) h = fee-fits fees kind (search halves)
+
+fees-of-profile : (profile : Profile) → profileFits profile ≡ true → feesFit (profile .fees) ≡ true
+unfolding profileFits
+fees-of-profile profile h = search halves
+
+-- the orders of an accepted file enter sound
+in-between : (low high n : ℕ) → low ≤ n → n ≤ high → between low high n ≡ true
+in-between low high n l h = both-yes _ _ (le-leb low n l) (le-leb n high h)
+
+not-zero : (n : ℕ) → (n ≡ 0 → ⊥) → 1 ≤ n
+not-zero n f = omega arith
+
+entered-row : (order : Order) → OrderInRange order → rowSound Waiting (enteredRow order) ≡ true
+unfolding rowSound
+entered-row order h =
+    let fault = order .fault in
+    both-yes _ _ (in-between 1 orderCap (order .amount .0) (h .from-one) (h .to-the-cap))
+    (cond-either (λ (state : State). (faultInRange state && beforePairing state) ≡ true) (eqb fault 0) Open (Faulty fault true true)
+    (λ none. refl)
+    (λ some. both-yes _ true (in-between 1 10 fault (not-zero fault (eqb-false fault 0 some)) (h .fault-known)) refl))
+
+entered-rows : (orders : List Order) → EachInRange orders → rowsSound Waiting (map enteredRow orders) ≡ true
+unfolding rowsSound
+entered-rows [] h = refl
+entered-rows (order ∷ orders) h = both-yes _ _ (entered-row order (h .0)) (entered-rows orders (h .1))
+
+entered-money : (money : Money) (profile : Profile) (name : Name) (orders : List Order) → MoneyInOrder money (entered profile name orders)
+unfolding entered
+entered-money K profile name orders = record { accepted-fits = omega arith; returned-fits = omega arith; covered = omega arith; unreturned = λ waiting. refl }
+entered-money O profile name orders = record { accepted-fits = omega arith; returned-fits = omega arith; covered = omega arith; unreturned = λ waiting. refl }
+
+entered-in-order : (profile : Profile) (name : Name) (orders : List Order) → profileFits profile ≡ true → nameInForm name ≡ true → 1 ≤ length orders
+    → EachInRange orders → InOrder (entered profile name orders)
+unfolding entered
+entered-in-order profile name orders fits formed some ranged = record {
+  name-in-form = formed;
+  fee-fits = fee-fits (profile .fees) (name .kind) (fees-of-profile profile fits);
+  an-order = omega (arith, length-map orders enteredRow);
+  rows-sound = entered-rows orders ranged;
+  go-ahead-with-faults = λ e. absurd (false≢true e);
+  faults-with-go-ahead = λ p. absurd (false≢true p);
+  moneys = λ money. entered-money money profile name orders;
+}
+
+-- a shipment behind a book in which its identifier was unknown
+shipments-behind : (book : Book) (s : Shipment) → shipmentsSound book ≡ true → shipmentSound s ≡ true → isUnknown (s .name .ident) book ≡ true
+    → shipmentsSound (book ++ (s ∷ [])) ≡ true
+shipments-behind [] s h k e = first-sound s [] (record { first = k; known-once = refl; rest = h })
+shipments-behind (x ∷ book) s h k e =
+    let parts = first-in-order x book h in
+    let ident = s .name .ident in
+    first-sound x (book ++ (s ∷ [])) (record {
+      first = parts .first;
+      known-once = append-unknown (x .name .ident) book s (parts .known-once) (same-back ident (x .name .ident) (unknown-first ident x book e));
+      rest = shipments-behind book s (parts .rest) k (unknown-rest ident x book e);
+    })
+
+rows-behind : (book : Book) (s : Shipment) → rowsIn (book ++ (s ∷ [])) ≡ rowsIn book + length (s .rows)
+rows-behind [] s = omega arith
+rows-behind (x ∷ book) s = omega (arith, rows-behind book s)
+
+-- What is left of a sound book is sound.
+record Left (after : Step) : Type 0 where
+  is-sound : sound (after .book) ≡ true
+
+module _ (book : Book) (h : sound book ≡ true) where
+  refusal : (number : ℕ) → Left (stay (Refused number) book)
+  refusal number = record { is-sound = h }
+
+  on-first : (is : Shipment → Bool) (does : Shipment → Outcome) → ((s : Shipment) → InOrder s → Kept s (does s)) → Left (onFirst is does book)
+  on-first is does keeps =
+      let b = book-in-order book h in
+      let k = first-kept is does keeps book (b .shipments) in
+      record {
+        is-sound = book-sound (onFirst is does book .book) (record {
+          few = omega (arith, b .few, k .as-many);
+          rows-fit = omega (arith, b .rows-fit, k .same-rows);
+          shipments = k .shipments;
+        });
+      }
+
+  behind : (s : Shipment) → InOrder s → isUnknown (s .name .ident) book ≡ true → length book < 32 → rowsIn book + length (s .rows) ≤ 2048
+      → sound (book ++ (s ∷ [])) ≡ true
+  behind s k unknown few rows =
+      let b = book-in-order book h in
+      book-sound (book ++ (s ∷ [])) (record {
+        few = omega (arith, length-append book (s ∷ []));
+        rows-fit = omega (arith, rows-behind book s);
+        shipments = shipments-behind book s (b .shipments) (shipment-sound s k) unknown;
+      })
+
+  entered-behind : (profile : Profile) (name : Name) (orders : List Order) → InOrder (entered profile name orders) → isUnknown (name .ident) book ≡ true
+      → length book < 32 → rowsIn book + length orders ≤ 2048 → sound (book ++ (entered profile name orders ∷ [])) ≡ true
+  unfolding entered
+  entered-behind profile name orders k unknown few rows = behind (entered profile name orders) k unknown few (omega (arith, length-map orders enteredRow))
+
+  taken-in : (profile : Profile) (name file : List ℕ) → Left (takenIn profile name file book)
+  unfolding takenIn
+  taken-in profile name file =
+      inquire-either Left _ 905 book _ refusal
+      (λ fits. verdict-either Left _ book _ refusal
+      (λ opened. inquire-either Left _ 101 book _ refusal
+      (λ unknown. verdict-either Left _ book _ refusal
+      (λ passed. inquire-either Left _ 903 book _ refusal
+      (λ few. inquire-either Left _ 904 book _ refusal
+      (λ rows. record { is-sound = new fits opened unknown passed few rows }))))))
+    where
+      new : profileFits profile ≡ true → opening name file ≡ Passed → isUnknown (nameOf name .ident) book ≡ true → contents profile file ≡ Passed
+          → ltb (length book) 32 ≡ true → leb (rowsIn book + length (orders file)) 2048 ≡ true → sound (book ++ (entered profile (nameOf name) (orders file) ∷ [])) ≡ true
+      new fits opened unknown passed few rows =
+          let stated = accepted-as-stated profile file passed in
+          entered-behind profile (nameOf name) (orders file)
+          (entered-in-order profile (nameOf name) (orders file) fits (opened-in-form name file opened) (stated .at-least-one) (stated .in-range))
+          unknown (ltb-true (length book) 32 few) (leb-true (rowsIn book + length (orders file)) 2048 rows)
+
+  transferred-in : (title : List ℕ) (amount : ℕ) → Left (step book (Transfer title amount))
+  transferred-in title amount =
+      let money = titleOf title .money in
+      transfer-either Left title amount book refusal (on-first _ (transferred money amount) (transferred-kept money amount))
+
+step-keeps : (book : Book) (call : Call) → sound book ≡ true → Left (step book call)
+unfolding step
+step-keeps book (Intake profile name file) h = taken-in book h profile name file
+step-keeps book (Transfer title amount) h = transferred-in book h title amount
+step-keeps book (On ident act) h = on-first book h (isCalled ident) (acted act) (acted-kept act)
+
+pub stays-sound : StaysSound
+unfolding sound shipmentsSound
+stays-sound = record { begins = refl; keeps = λ book call h. step-keeps book call h .is-sound }
+
+-- from a sound book every list of calls leads to a sound book
+runs-sound : (book : Book) (calls : List Call) → sound book ≡ true → sound (run book calls) ≡ true
+runs-sound book [] h = h
+runs-sound book (call ∷ calls) h = runs-sound (step book call .book) calls (stays-sound .keeps book call h)
+
+pub always-sound : AlwaysSound
+always-sound calls point = runs-sound [] (take point calls) (stays-sound .begins)
