@@ -4,5 +4,13 @@ pub mod Shipments
 pub mod Known
 pub mod SoundParts
 pub mod ActsKeepSound
+pub mod ActsConserve
+pub mod Leaving
+pub mod Finding
 pub mod StaysSound
+pub mod StepsConserve
+pub mod Conserved
+pub mod NeverTwice
+pub mod Entire
+pub mod Demand3
 pub mod Zs1

@@ -1,0 +1,401 @@
+-- One act on one sound shipment: a refusal leaves all as it was, and what the shipment holds and has free changes just by what the answer says
+-- was accepted and what left.
+-- Assumes nothing.
+use mathlib.Core.Path.{_≡_, refl, sym, ap}
+use mathlib.Core.Bool.{Bool, true, false, cond, _&&_, _||_, false≢true}
+use mathlib.Core.List.{List, [], _∷_, map}
+use Prim.Native.Nat.{ℕ, _+_, _-_, _*_, _≤_, _<_}
+use native.Mathlib.Omega.{arith}
+use native.Mathlib.Nat.{zero-mul, suc-mul}
+use lib.ListN.{length, set, length-set, length-map}
+use Rattle.money.specs.declared.Amount.{Amount}
+use Rattle.money.specs.declared.Money.{Money}
+use Rattle.money.specs.declared.Money.the-variants.{K, O}
+use Rattle.epe.specs.Name.{titleOf}
+use Rattle.epe.specs.declared.ident.Ident.{Ident}
+use Rattle.model.specs.Shipment.{of, Shipment, accepted, returned, isWaiting, isPaired, when, sum, waits, worth, need}
+use Rattle.model.specs.Shipment.{needOncePaired, free, holds, held}
+use Rattle.model.specs.Calls.{Deed, Post, Pay, MarkUndelivered, Withdraw, Act, GoAhead, Pair, Close, OnOrder, Return, Call, Transfer, On}
+use Rattle.model.specs.Calls.{Answer, Done, IsPaired, Short, Returned, isRefusal, Outcome, leave, ask}
+use Rattle.model.specs.Calls.{withStage, withGoAhead, withAccepted, withReturned, withRows, withState}
+use Rattle.model.specs.Calls.{transferred, goneAhead, paired, closed, fits, becomes, says, noOrder, orderAt, onOrder}
+use Rattle.model.specs.Calls.{takes, waitsOn, cleared, afterReturn, waiting, returnedBy, surplusReturned, acted}
+use Rattle.model.specs.Sound.{beforePairing, rowSound, rowsSound}
+use Rattle.model.specs.Demand.{isMoney, acceptedBy, leftBy}
+use Rattle.model.specs.declared.Route.{Route}
+use Rattle.model.specs.declared.Route.the-variants.{Zwr, Opr, Zpr, Zzr}
+use Rattle.model.specs.declared.Row.{Row}
+use Rattle.model.specs.declared.Stage.{Stage}
+use Rattle.model.specs.declared.Stage.the-variants.{Paired, Closed}
+use Rattle.model.specs.declared.State.{State}
+use Rattle.model.specs.declared.State.the-variants.{Open, Posted, Paid, Faulty, Undelivered, Withdrawn}
+use Rattle.model.proofs.Asking.{not-both, ask-either, choose-either}
+use Rattle.model.proofs.Sums.{sum-set, sum-moved, sum-map}
+use Rattle.model.proofs.Shipments.{when-true, when-false, waiting-unpaired, amountOf, same-need, same-need-once, both-covered}
+use Rattle.model.proofs.Shipments.{stateFor, fitting-state, in-range}
+use Rattle.model.proofs.SoundParts.{halves, InOrder}
+
+-- What an order holds in a Paired shipment.
+abbrev pub heldBy : Money → ℕ → Row → ℕ
+heldBy money fee row = when (holds money (row .state)) (worth money fee row)
+
+-- What conservation needs of a shipment: its transfers cover what is taken from them; before pairing every order still holds its whole worth, so
+-- that pairing moves just the need; and no surplus was returned while it waits.
+pub record Balanced (s : Shipment) : Type 0 where
+  pub covered : (money : Money) → needOncePaired money s + returned money s ≤ accepted money s
+  pub whole : isPaired (s .stage) ≡ false → (money : Money) → sum (heldBy money (s .fee)) (s .rows) ≡ need money s
+  pub unreturned : isWaiting (s .stage) ≡ true → (money : Money) → returned money s ≡ 0
+
+-- a sound shipment is balanced: before pairing its orders are Open, or Faulty with both moneys waiting
+unpaired-holds : (state : State) → beforePairing state ≡ true → (money : Money) → holds money state ≡ true
+unpaired-holds Open e K = refl
+unpaired-holds Open e O = refl
+unpaired-holds Posted e money = absurd (false≢true e)
+unpaired-holds Paid e money = absurd (false≢true e)
+unpaired-holds (Faulty fault true true) e K = refl
+unpaired-holds (Faulty fault true true) e O = refl
+unpaired-holds (Faulty fault true false) e money = absurd (false≢true e)
+unpaired-holds (Faulty fault false o) e money = absurd (false≢true e)
+unpaired-holds (Undelivered k) e money = absurd (false≢true e)
+unpaired-holds (Withdrawn k o) e money = absurd (false≢true e)
+
+module _ (stage : Stage) (fee : ℕ) (unpaired : isPaired stage ≡ false) where
+  row-whole : (money : Money) (row : Row) → rowSound stage row ≡ true → heldBy money fee row ≡ worth money fee row
+  unfolding rowSound
+  row-whole money row h =
+      let before : (isPaired stage || beforePairing (row .state)) ≡ true = search halves in
+      when-true (holds money (row .state)) (worth money fee row) (unpaired-holds (row .state) (rw unpaired at before) money)
+
+  rows-whole : (money : Money) (rows : List Row) → rowsSound stage rows ≡ true
+      → sum (heldBy money fee) rows ≡ of money (sum amountOf rows) (length rows * fee)
+  unfolding rowsSound
+  rows-whole K [] h = refl
+  rows-whole O [] h = sym (zero-mul fee)
+  rows-whole K (row ∷ rows) h = omega (arith, row-whole K row (search halves), rows-whole K rows (search halves))
+  rows-whole O (row ∷ rows) h = omega (arith, row-whole O row (search halves), rows-whole O rows (search halves), suc-mul (length rows) fee)
+
+pub balanced : (s : Shipment) → InOrder s → Balanced s
+unfolding need
+balanced s h = record {
+  covered = λ money. omega (arith, h .moneys money .covered);
+  whole = whole;
+  unreturned = λ waiting money. h .moneys money .unreturned waiting;
+}
+  where
+    whole : isPaired (s .stage) ≡ false → (money : Money) → sum (heldBy money (s .fee)) (s .rows) ≡ need money s
+    whole unpaired K = rows-whole (s .stage) (s .fee) unpaired K (s .rows) (h .rows-sound)
+    whole unpaired O = rows-whole (s .stage) (s .fee) unpaired O (s .rows) (h .rows-sound)
+
+-- What a call does to its shipment, as demand 3 wants it.
+pub record Fair (call : Call) (s : Shipment) (outcome : Outcome) : Type 0 where
+  pub name : outcome .shipment .name ≡ s .name
+  pub refused : isRefusal (outcome .answer) ≡ true → outcome .shipment ≡ s
+  pub conserves : (money : Money)
+      → held money s + free money s + acceptedBy money call (outcome .answer)
+      ≡ held money (outcome .shipment) + free money (outcome .shipment) + leftBy money call (outcome .answer)
+
+-- a question: its "no" is fair, so only its "yes" is left to show
+asked : (call : Call) (s : Shipment) (t : Bool) (number : ℕ) (next : Outcome) → (t ≡ true → Fair call s next) → Fair call s (ask t number s next)
+asked call s t number next = ask-either (Fair call s) t number s next (λ n. record { name = refl; refused = λ e. refl; conserves = λ money. refl })
+
+-- a transfer, into either money, moves that money's free money only
+module _ (s : Shipment) (b : Balanced s) (n : ℕ) where
+  transfer-conserves : (other money : Money)
+      → held money s + free money s + when (isMoney money other) n ≡ held money (withAccepted other n s) + free money (withAccepted other n s) + 0
+  unfolding held free need
+  transfer-conserves K K = omega (arith, b .covered K)
+  transfer-conserves K O = omega (arith, b .covered O)
+  transfer-conserves O K = omega (arith, b .covered K)
+  transfer-conserves O O = omega (arith, b .covered O)
+
+  -- whatever its title
+  transfer-fair : (title : List ℕ) → Fair (Transfer title n) s (leave Done (withAccepted (titleOf title .money) n s))
+  transfer-fair title = record {
+    name = refl;
+    refused = λ e. absurd (false≢true e);
+    conserves = transfer-conserves (titleOf title .money);
+  }
+
+  pub transferred-fair : (title : List ℕ) → Fair (Transfer title n) s (transferred (titleOf title .money) n s)
+  unfolding transferred
+  transferred-fair title = asked _ s _ 14 _ (λ e. transfer-fair title)
+
+module _ (ident : Ident) (s : Shipment) (b : Balanced s) where
+  go-ahead-fair : Fair (On ident GoAhead) s (leave Done (withGoAhead s))
+  unfolding held free
+  go-ahead-fair =
+      let t = withGoAhead s in
+      let needs : (money : Money) → need money t ≡ need money s = λ money. same-need money s t refl refl refl in
+      record {
+        name = refl;
+        refused = λ e. absurd (false≢true e);
+        conserves = λ money. omega (arith, same-need-once money s t refl (needs money));
+      }
+
+  gone-ahead-fair : Fair (On ident GoAhead) s (goneAhead s)
+  unfolding goneAhead
+  gone-ahead-fair = asked _ s _ 15 _ (λ e. asked _ s _ 16 _ (λ e. asked _ s _ 17 _ (λ e. go-ahead-fair)))
+
+  -- before pairing nothing is held or needed
+  module _ (waits : isWaiting (s .stage) ≡ true) where
+    unpaired : isPaired (s .stage) ≡ false
+    unpaired = waiting-unpaired (s .stage) waits
+
+    no-need : (money : Money) → needOncePaired money s ≡ 0
+    no-need money = when-false (isPaired (s .stage)) (need money s) unpaired
+
+    none-held : (money : Money) → held money s ≡ 0
+    unfolding held
+    none-held money = when-false (isPaired (s .stage)) (sum (heldBy money (s .fee)) (s .rows)) unpaired
+
+    close-conserves : (money : Money) → held money s + free money s + 0 ≡ held money (withStage Closed s) + free money (withStage Closed s) + 0
+    unfolding held free
+    close-conserves money = omega (arith, no-need money, none-held money)
+
+    close-fair : Fair (On ident Close) s (leave Done (withStage Closed s))
+    close-fair = record {
+      name = refl;
+      refused = λ e. absurd (false≢true e);
+      conserves = close-conserves;
+    }
+
+    -- both needs covered
+    module _ (covers : (money : Money) → need money s ≤ accepted money s) where
+      pair-covers : (money : Money) → need money (withStage Paired s) + returned money s ≤ accepted money s
+      pair-covers money = omega (arith, covers money, b .unreturned waits money, same-need money s (withStage Paired s) refl refl refl)
+
+      pair-conserves : (money : Money) → held money s + free money s + 0 ≡ held money (withStage Paired s) + free money (withStage Paired s) + 0
+      unfolding held free
+      pair-conserves money =
+          omega
+          (arith, no-need money, none-held money, pair-covers money, b .whole unpaired money, same-need money s (withStage Paired s) refl refl refl)
+
+      pair-fair : Fair (On ident Pair) s (leave IsPaired (withStage Paired s))
+      pair-fair = record {
+        name = refl;
+        refused = λ e. absurd (false≢true e);
+        conserves = pair-conserves;
+      }
+
+  short-fair : (k o : ℕ) → Fair (On ident Pair) s (leave (Short k o) s)
+  short-fair k o = record { name = refl; refused = λ e. refl; conserves = λ money. refl }
+
+  closed-fair : Fair (On ident Close) s (closed s)
+  unfolding closed
+  closed-fair = asked _ s _ 15 _ close-fair
+
+  paired-fair : Fair (On ident Pair) s (paired s)
+  unfolding paired
+  paired-fair = asked _ s _ 15 _ (λ w. asked _ s _ 18 _ (λ e. choose-either (Fair (On ident Pair) s) _ _ _ (λ c. pair-fair w (both-covered s c)) (short-fair _ _)))
+
+-- new orders in a Paired shipment: what they hold falls by what left, and the need stays
+module _ (call : Call) (s : Shipment) (b : Balanced s) (is-paired : isPaired (s .stage) ≡ true) (rows : List Row) (answer : Answer) where
+  module _
+      (counts : length rows ≡ length (s .rows))
+      (sums : sum amountOf rows ≡ sum amountOf (s .rows))
+      (moved : (money : Money) → sum (heldBy money (s .fee)) rows + leftBy money call answer ≡ sum (heldBy money (s .fee)) (s .rows))
+      (none-in : (money : Money) → acceptedBy money call answer ≡ 0)
+      (taken : isRefusal answer ≡ false) where
+    rows-need : (money : Money) → needOncePaired money (withRows rows s) ≡ needOncePaired money s
+    rows-need money = same-need-once money s (withRows rows s) refl (same-need money s (withRows rows s) refl counts sums)
+
+    rows-conserve : (money : Money)
+        → held money s + free money s + acceptedBy money call answer ≡ held money (withRows rows s) + free money (withRows rows s) + leftBy money call answer
+    unfolding held free
+    rows-conserve money =
+        omega (
+          arith,
+          rows-need money,
+          moved money,
+          none-in money,
+          when-true (isPaired (s .stage)) (sum (heldBy money (s .fee)) rows) is-paired,
+          when-true (isPaired (s .stage)) (sum (heldBy money (s .fee)) (s .rows)) is-paired,
+        )
+
+    rows-fair : Fair call s (leave answer (withRows rows s))
+    rows-fair = record {
+      name = refl;
+      refused = λ e. absurd (not-both (isRefusal answer) e taken);
+      conserves = rows-conserve;
+    }
+
+-- what the order holds less by a deed is what leaves
+deed-moves : (deed : Deed) (call : Call) (fee : ℕ) (row : Row) (money : Money)
+    → heldBy money fee (withState (becomes deed) row) + leftBy money call (says deed fee row) ≡ heldBy money fee (withState (stateFor deed) row)
+deed-moves Post call fee row K = omega arith
+deed-moves Post call fee row O = omega arith
+deed-moves Pay call fee row K = omega arith
+deed-moves Pay call fee row O = omega arith
+deed-moves MarkUndelivered call fee row K = omega arith
+deed-moves MarkUndelivered call fee row O = omega arith
+deed-moves Withdraw call fee row K = omega arith
+deed-moves Withdraw call fee row O = omega arith
+
+deed-brings-none : (deed : Deed) (ident : Ident) (number fee : ℕ) (row : Row) (money : Money)
+    → acceptedBy money (On ident (OnOrder deed number)) (says deed fee row) ≡ 0
+deed-brings-none Post ident number fee row money = refl
+deed-brings-none Pay ident number fee row money = refl
+deed-brings-none MarkUndelivered ident number fee row money = refl
+deed-brings-none Withdraw ident number fee row money = refl
+
+deed-taken : (deed : Deed) (fee : ℕ) (row : Row) → isRefusal (says deed fee row) ≡ false
+deed-taken Post fee row = refl
+deed-taken Pay fee row = refl
+deed-taken MarkUndelivered fee row = refl
+deed-taken Withdraw fee row = refl
+
+module _ (ident : Ident) (deed : Deed) (number : ℕ) (s : Shipment) (b : Balanced s) where
+  abbrev order : Row
+  order = orderAt number s
+
+  abbrev after : Row
+  after = withState (becomes deed) order
+
+  module _ (is-paired : isPaired (s .stage) ≡ true) (there : number - 1 < length (s .rows)) (fitting : fits deed (order .state) ≡ true) where
+    deed-held : (money : Money)
+        → sum (heldBy money (s .fee)) (set (s .rows) (number - 1) after) + leftBy money (On ident (OnOrder deed number)) (says deed (s .fee) order)
+        ≡ sum (heldBy money (s .fee)) (s .rows)
+    deed-held money =
+        omega (
+          arith,
+          sum-set (heldBy money (s .fee)) (s .rows) (number - 1) after noOrder there,
+          deed-moves deed (On ident (OnOrder deed number)) (s .fee) order money,
+          ap (λ state. heldBy money (s .fee) (withState state order)) (fitting-state deed (order .state) fitting),
+        )
+
+    deed-fair : Fair (On ident (OnOrder deed number)) s (leave (says deed (s .fee) order) (withRows (set (s .rows) (number - 1) after) s))
+    deed-fair =
+        rows-fair (On ident (OnOrder deed number)) s b is-paired (set (s .rows) (number - 1) after) (says deed (s .fee) order)
+        (length-set (s .rows) (number - 1) after)
+        (omega (arith, sum-set amountOf (s .rows) (number - 1) after noOrder there))
+        deed-held
+        (deed-brings-none deed ident number (s .fee) order)
+        (deed-taken deed (s .fee) order)
+
+  on-order-fair : Fair (On ident (OnOrder deed number)) s (onOrder deed number s)
+  unfolding onOrder
+  on-order-fair = asked _ s _ 19 _ (λ p. asked _ s _ 20 _ (λ r. asked _ s _ 21 _ (λ f. deed-fair p (in-range _ number r) f)))
+
+-- what waits on a route goes back: an order holds less just what it waited with, nothing less of the other money, and keeps its amount
+abbrev rowOf : Amount → State → Row
+rowOf amount state = record { amount = amount; state = state }
+
+abbrev afterIf : Bool → Money → Row → Row
+afterIf t money row = cond t (withState (cleared money (row .state)) row) row
+
+back-same : (t : Bool) (money : Money) (fee : ℕ) (amount : Amount) (state : State)
+    → heldBy money fee (afterIf (t && waits money state) money (rowOf amount state)) + when (t && waits money state) (worth money fee (rowOf amount state))
+    ≡ heldBy money fee (rowOf amount state)
+back-same false money fee amount state = omega arith
+back-same true money fee amount Open = omega arith
+back-same true money fee amount Posted = omega arith
+back-same true money fee amount Paid = omega arith
+back-same true K fee amount (Faulty fault true o) = omega arith
+back-same true K fee amount (Faulty fault false o) = omega arith
+back-same true O fee amount (Faulty fault k true) = omega arith
+back-same true O fee amount (Faulty fault k false) = omega arith
+back-same true K fee amount (Undelivered true) = omega arith
+back-same true K fee amount (Undelivered false) = omega arith
+back-same true O fee amount (Undelivered k) = omega arith
+back-same true K fee amount (Withdrawn true o) = omega arith
+back-same true K fee amount (Withdrawn false o) = omega arith
+back-same true O fee amount (Withdrawn k true) = omega arith
+back-same true O fee amount (Withdrawn k false) = omega arith
+
+abbrev theOther : Money → Money
+theOther K = O
+theOther O = K
+
+back-other : (t : Bool) (money : Money) (fee : ℕ) (amount : Amount) (state : State)
+    → heldBy (theOther money) fee (afterIf t money (rowOf amount state)) ≡ heldBy (theOther money) fee (rowOf amount state)
+back-other false money fee amount state = refl
+back-other true money fee amount Open = refl
+back-other true money fee amount Posted = refl
+back-other true money fee amount Paid = refl
+back-other true K fee amount (Faulty fault k o) = refl
+back-other true O fee amount (Faulty fault k o) = refl
+back-other true K fee amount (Undelivered k) = refl
+back-other true O fee amount (Undelivered k) = refl
+back-other true K fee amount (Withdrawn k o) = refl
+back-other true O fee amount (Withdrawn k o) = refl
+
+back-amount : (t : Bool) (money : Money) (row : Row) → amountOf (afterIf t money row) ≡ amountOf row
+back-amount true money row = refl
+back-amount false money row = refl
+
+module _ (route : Route) (s : Shipment) where
+  returned-same : (money : Money)
+      → sum (heldBy money (s .fee)) (map (afterReturn route money) (s .rows)) + waiting route money s ≡ sum (heldBy money (s .fee)) (s .rows)
+  unfolding waiting
+  returned-same money =
+      sum-moved (heldBy money (s .fee)) (λ row. when (waitsOn route money row) (worth money (s .fee) row)) (heldBy money (s .fee)) (afterReturn route money)
+      (λ row. back-same (takes route (row .state)) money (s .fee) (row .amount) (row .state))
+      (s .rows)
+
+  returned-other : (money : Money)
+      → sum (heldBy (theOther money) (s .fee)) (map (afterReturn route money) (s .rows)) ≡ sum (heldBy (theOther money) (s .fee)) (s .rows)
+  returned-other money =
+      sum-map (heldBy (theOther money) (s .fee)) (heldBy (theOther money) (s .fee)) (afterReturn route money)
+      (λ row. back-other (waitsOn route money row) money (s .fee) (row .amount) (row .state))
+      (s .rows)
+
+  returned-held : (other money : Money)
+      → sum (heldBy money (s .fee)) (map (afterReturn route other) (s .rows)) + when (isMoney money other) (waiting route other s)
+      ≡ sum (heldBy money (s .fee)) (s .rows)
+  returned-held K K = returned-same K
+  returned-held O O = returned-same O
+  returned-held K O = omega (arith, returned-other K)
+  returned-held O K = omega (arith, returned-other O)
+
+  returned-amounts : (money : Money) → sum amountOf (map (afterReturn route money) (s .rows)) ≡ sum amountOf (s .rows)
+  returned-amounts money = sum-map amountOf amountOf (afterReturn route money) (λ row. back-amount (waitsOn route money row) money row) (s .rows)
+
+module _ (ident : Ident) (route : Route) (money : Money) (s : Shipment) (b : Balanced s) where
+  return-fair : (count : ℕ) → isPaired (s .stage) ≡ true
+      → Fair (On ident (Return route money)) s (leave (Returned (waiting route money s) count) (withRows (map (afterReturn route money) (s .rows)) s))
+  return-fair count is-paired =
+      rows-fair (On ident (Return route money)) s b is-paired (map (afterReturn route money) (s .rows)) (Returned (waiting route money s) count)
+      (length-map (s .rows) (afterReturn route money))
+      (returned-amounts route s money)
+      (returned-held route s money)
+      (λ other. refl)
+      refl
+
+  returned-by-fair : Fair (On ident (Return route money)) s (returnedBy route money s)
+  unfolding returnedBy
+  returned-by-fair = asked _ s _ 19 _ (λ p. asked _ s _ 22 _ (λ e. asked _ s _ 23 _ (λ e. return-fair _ p)))
+
+-- the surplus goes back: the free money falls by it
+module _ (ident : Ident) (s : Shipment) (b : Balanced s) where
+  surplus-conserves : (other money : Money)
+      → held money s + free money s + 0
+      ≡ held money (withReturned other (free other s) s) + free money (withReturned other (free other s) s) + when (isMoney money other) (free other s)
+  unfolding held free need
+  surplus-conserves K K = omega (arith, b .covered K)
+  surplus-conserves O O = omega (arith, b .covered O)
+  surplus-conserves K O = omega (arith, b .covered O)
+  surplus-conserves O K = omega (arith, b .covered K)
+
+  surplus-fair : (money : Money)
+      → Fair (On ident (Return Zwr money)) s (leave (Returned (free money s) 0) (withReturned money (free money s) s))
+  surplus-fair money = record {
+    name = refl;
+    refused = λ e. absurd (false≢true e);
+    conserves = surplus-conserves money;
+  }
+
+  surplus-returned-fair : (money : Money) → Fair (On ident (Return Zwr money)) s (surplusReturned money s)
+  unfolding surplusReturned
+  surplus-returned-fair money = asked _ s _ 24 _ (λ e. asked _ s _ 23 _ (λ e. surplus-fair money))
+
+  -- Every act of a call that names a shipment.
+  pub acted-fair : (act : Act) → Fair (On ident act) s (acted act s)
+  unfolding acted
+  acted-fair GoAhead = gone-ahead-fair ident s b
+  acted-fair Pair = paired-fair ident s b
+  acted-fair Close = closed-fair ident s b
+  acted-fair (OnOrder deed number) = on-order-fair ident deed number s b
+  acted-fair (Return Zwr money) = surplus-returned-fair money
+  acted-fair (Return Opr money) = returned-by-fair ident Opr money s b
+  acted-fair (Return Zpr money) = returned-by-fair ident Zpr money s b
+  acted-fair (Return Zzr money) = returned-by-fair ident Zzr money s b
