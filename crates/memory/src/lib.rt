@@ -1,0 +1,3 @@
+// The lent memory of a book: where its fields lie, read and stored in place. docs/LAYOUT.md has the table.
+pub mod number;
+pub mod row;

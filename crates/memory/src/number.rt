@@ -1,0 +1,50 @@
+// Numbers in memory, least byte first.
+ghost use mathlib.Core.Path.{_≡_};
+ghost use Prim.Native.Nat.{_+_, _≤_, _<_, _^_};
+ghost use lib.ListN.{length};
+ghost use Rattle.memory.specs.Number.{numberAt, withNumber};
+
+// A byte as a number.
+fn wide(byte: u8) -> u64
+    ensures { λ r. ⌜ (r ≡ byte) × (r < 256) ⌝ }
+{
+    byte as u64
+}
+
+// The four bytes from a place on, as a number.
+pub fn read_four(memory: &[u8], at: usize) -> u64
+    requires { ⌜ at + 4 ≤ length (now memory) ⌝ }
+    ensures { λ r. ⌜ (r ≡ numberAt 4 (now (memory .entry)) at) × (r < 2 ^ 32) ⌝ }
+{
+    let low = wide(memory[at]) + 0x100 * wide(memory[at + 1]);
+    let high = wide(memory[at + 2]) + 0x100 * wide(memory[at + 3]);
+    low + 0x1_0000 * high
+}
+
+// The eight bytes from a place on, as a number.
+pub fn read_eight(memory: &[u8], at: usize) -> u64
+    requires { ⌜ at + 8 ≤ length (now memory) ⌝ }
+    ensures { λ r. ⌜ r ≡ numberAt 8 (now (memory .entry)) at ⌝ }
+{
+    read_four(memory, at) + 0x1_0000_0000 * read_four(memory, at + 4)
+}
+
+// Stores the low four bytes of a number.
+pub fn store_four(memory: &mut [u8], at: usize, n: u64)
+    requires { ⌜ at + 4 ≤ length (now memory) ⌝ }
+    ensures { λ _. ⌜ now (memory .exit) ≡ withNumber 4 (now (memory .entry)) at n ⌝ }
+{
+    memory[at] = (n % 256) as u8;
+    memory[at + 1] = (n / 0x100 % 256) as u8;
+    memory[at + 2] = (n / 0x1_0000 % 256) as u8;
+    memory[at + 3] = (n / 0x100_0000 % 256) as u8;
+}
+
+// Stores a number in eight bytes.
+pub fn store_eight(memory: &mut [u8], at: usize, n: u64)
+    requires { ⌜ at + 8 ≤ length (now memory) ⌝ }
+    ensures { λ _. ⌜ now (memory .exit) ≡ withNumber 8 (now (memory .entry)) at n ⌝ }
+{
+    store_four(memory, at, n);
+    store_four(memory, at + 4, n / 0x1_0000_0000);
+}
