@@ -1,16 +1,17 @@
--- A byte stored in a head or a row changes that head or row alone, there alone.
+-- A byte or a number stored in a head or a row changes that head or row alone, there alone.
 -- Assumes nothing.
-use mathlib.Core.Path.{_≡_, ap, _∙_}
+use mathlib.Core.Path.{_≡_, refl, sym, ap, subst, _∙_}
 use mathlib.Core.List.{List}
 use mathlib.Core.Logic.{_⊎_, inl, inr, ⊎-elim}
-use Prim.Native.Nat.{ℕ, _+_, _-_, _<_, _≤_}
+use Prim.Native.Nat.{ℕ, zero, suc, _+_, _-_, _/_, _%_, _<_, _≤_}
 use native.Mathlib.Omega.{arith}
 use borrow.Author.Tests.{ltb-true, ltb-false}
 use lib.Dec.{ltb}
 use lib.ListN.{set, take, drop, length-set}
 use lib.Seq.{drop-set-lt, drop-set-add, take-set-le, take-set-lt, getD-set-other}
 use Rattle.text.proofs.Branches.{either-way}
-use Rattle.memory.specs.Layout.{headAt, rowAt, headBytes, rowBytes, OnlyRow}
+use Rattle.memory.specs.Layout.{headAt, rowAt, headBytes, rowBytes, OnlyRow, OnlyHead}
+use Rattle.memory.specs.Number.{withNumber}
 
 -- any part of a list
 module _ (m : List ℕ) (at n : ℕ) where
@@ -51,6 +52,68 @@ module _ (m : List ℕ) (k q v : ℕ) (within : q < 8) where
     behind = λ j far. getD-set-other m (rowAt k + q) j v 0 (omega arith);
     as-long = length-set m (rowAt k + q) v;
   }
+
+-- byte q of head i
+module _ (m : List ℕ) (i q v : ℕ) (within : q < 64) where
+  pub head-byte : headBytes (set m (headAt i + q) v) i ≡ set (headBytes m i) q v
+  unfolding headBytes
+  head-byte = inside m (headAt i) 64 q v within
+
+  other-head : (j : ℕ) → (j ≡ i → ⊥) → headBytes (set m (headAt i + q) v) j ≡ headBytes m j
+  unfolding headBytes
+  other-head j apart =
+      either-way (ltb j i)
+      (λ below. outside m (headAt j) 64 (headAt i + q) v (inr (omega (arith, ltb-true j i below))))
+      (λ above. outside m (headAt j) 64 (headAt i + q) v (inl (omega (arith, ltb-false j i above))))
+
+  any-row : i < 32 → (k : ℕ) → rowBytes (set m (headAt i + q) v) k ≡ rowBytes m k
+  unfolding rowBytes
+  any-row few k = outside m (rowAt k) 8 (headAt i + q) v (inl (omega arith))
+
+  pub head-byte-only : i < 32 → OnlyHead i m (set m (headAt i + q) v)
+  head-byte-only few = record {
+    shipments = getD-set-other m (headAt i + q) 0 v 0 (omega arith);
+    other-heads = other-head;
+    rows = any-row few;
+    behind = λ j far. getD-set-other m (headAt i + q) j v 0 (omega arith);
+    as-long = length-set m (headAt i + q) v;
+  }
+
+pub only-head-then : (i : ℕ) (l m n : List ℕ) → OnlyHead i l m → OnlyHead i m n → OnlyHead i l n
+only-head-then i l m n first then = record {
+  shipments = then .shipments ∙ first .shipments;
+  other-heads = λ j apart. then .other-heads j apart ∙ first .other-heads j apart;
+  rows = λ k. then .rows k ∙ first .rows k;
+  behind = λ j far. then .behind j far ∙ first .behind j far;
+  as-long = then .as-long ∙ first .as-long;
+}
+
+-- a number in head i, byte after byte
+pub head-number : (width : ℕ) (m : List ℕ) (i q n : ℕ) → q + width ≤ 64
+    → headBytes (withNumber width m (headAt i + q) n) i ≡ withNumber width (headBytes m i) q n
+unfolding withNumber
+head-number zero m i q n within = refl
+head-number (suc width) m i q n within =
+    let next : headAt i + suc q ≡ suc (headAt i + q) = omega arith in
+    let rest = head-number width (set m (headAt i + q) (n % 256)) i (suc q) (n / 256) (omega arith) in
+    ap (λ at. headBytes (withNumber width (set m (headAt i + q) (n % 256)) at (n / 256)) i) (sym next)
+    ∙ rest
+    ∙ ap (λ head. withNumber width head (suc q) (n / 256)) (head-byte m i q (n % 256) (omega arith))
+
+pub head-number-only : (width : ℕ) (m : List ℕ) (i q n : ℕ) → q + width ≤ 64 → i < 32 → OnlyHead i m (withNumber width m (headAt i + q) n)
+unfolding withNumber
+head-number-only zero m i q n within few = record {
+  shipments = refl;
+  other-heads = λ j apart. refl;
+  rows = λ k. refl;
+  behind = λ j far. refl;
+  as-long = refl;
+}
+head-number-only (suc width) m i q n within few =
+    let first = set m (headAt i + q) (n % 256) in
+    let next : headAt i + suc q ≡ suc (headAt i + q) = omega arith in
+    only-head-then i m first _ (head-byte-only m i q (n % 256) (omega arith) few)
+    (subst (λ at. OnlyHead i first (withNumber width first at (n / 256))) next (head-number-only width first i (suc q) (n / 256) (omega arith) few))
 
 -- one change of a row after another
 pub only-row-then : (k : ℕ) (l m n : List ℕ) → OnlyRow k l m → OnlyRow k m n → OnlyRow k l n

@@ -27,3 +27,11 @@ pub record OnlyRow (k : ℕ) (m m′ : List ℕ) : Type 0 where
   pub other-rows : (j : ℕ) → (j ≡ k → ⊥) → rowBytes m′ j ≡ rowBytes m j
   pub behind : (j : ℕ) → size ≤ j → getD m′ j 0 ≡ getD m j 0
   pub as-long : length m′ ≡ length m
+
+-- m′ is m but for head i.
+pub record OnlyHead (i : ℕ) (m m′ : List ℕ) : Type 0 where
+  pub shipments : getD m′ 0 0 ≡ getD m 0 0
+  pub other-heads : (j : ℕ) → (j ≡ i → ⊥) → headBytes m′ j ≡ headBytes m j
+  pub rows : (k : ℕ) → rowBytes m′ k ≡ rowBytes m k
+  pub behind : (j : ℕ) → size ≤ j → getD m′ j 0 ≡ getD m j 0
+  pub as-long : length m′ ≡ length m

@@ -1,3 +1,5 @@
 pub mod Number
 pub mod Layout
 pub mod Rows
+pub mod Heads
+pub mod Read

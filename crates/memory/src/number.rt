@@ -5,7 +5,7 @@ ghost use lib.ListN.{length};
 ghost use Rattle.memory.specs.Number.{numberAt, withNumber};
 
 // A byte as a number.
-fn wide(byte: u8) -> u64
+pub fn wide(byte: u8) -> u64
     ensures { λ r. ⌜ (r ≡ byte) × (r < 256) ⌝ }
 {
     byte as u64

@@ -1,0 +1,183 @@
+-- A field stored in a head is read back, and every other field of it is as it was.
+-- Assumes nothing.
+use mathlib.Core.Path.{_≡_, refl, ap, _∙_}
+use mathlib.Core.List.{List}
+use Prim.Native.Nat.{ℕ, zero, suc, _+_, _/_, _%_, _^_, _<_, _≤_}
+use native.Mathlib.Omega.{arith}
+use lib.Dec.{eqb}
+use lib.ListN.{length, getD, set, take}
+use lib.Seq.{take-set-le, getD-set-same, getD-set-other}
+use Rattle.money.specs.declared.Money.{Money}
+use Rattle.money.specs.declared.Money.the-variants.{K, O}
+use Rattle.model.specs.Shipment.{accepted, returned}
+use Rattle.model.specs.Calls.{withStage, withGoAhead, withAccepted, withReturned}
+use Rattle.model.specs.declared.Row.{Row}
+use Rattle.model.specs.declared.Stage.{Stage}
+use Rattle.model.specs.declared.Stage.the-variants.{Waiting, Paired, Closed}
+use Rattle.memory.specs.Number.{numberAt, withNumber}
+use Rattle.memory.specs.Heads.{nameIn, stageOf, stageByte, acceptedAt, returnedAt, shipmentIn, FieldStored}
+use Rattle.memory.proofs.Numbers.{stored-is-read}
+
+-- Two heads that are the same outside the bytes from one place up to another, which lie behind the name and the fee.
+record Elsewhere (from to : ℕ) (head head′ : List ℕ) : Type 0 where
+  ident : take 17 head′ ≡ take 17 head
+  before : (j : ℕ) → j < from → getD head′ j 0 ≡ getD head j 0
+  behind : (j : ℕ) → to ≤ j → getD head′ j 0 ≡ getD head j 0
+
+number-alike : (width : ℕ) (head head′ : List ℕ) (at : ℕ) → ((j : ℕ) → at ≤ j → j < at + width → getD head′ j 0 ≡ getD head j 0)
+    → numberAt width head′ at ≡ numberAt width head at
+unfolding numberAt
+number-alike zero head head′ at same = refl
+number-alike (suc width) head head′ at same =
+    omega (arith, same at (omega arith) (omega arith), number-alike width head head′ (suc at) (λ j low high. same j (omega arith) (omega arith)))
+
+module _ (from to : ℕ) (head head′ : List ℕ) (e : Elsewhere from to head head′) where
+  number-before : (width at : ℕ) → at + width ≤ from → numberAt width head′ at ≡ numberAt width head at
+  number-before width at h = number-alike width head head′ at (λ j low high. e .before j (omega arith))
+
+  number-behind : (width at : ℕ) → to ≤ at → numberAt width head′ at ≡ numberAt width head at
+  number-behind width at h = number-alike width head head′ at (λ j low high. e .behind j (omega arith))
+
+  same-name : 24 ≤ from → nameIn head′ ≡ nameIn head
+  same-name h = λ i. record {
+    ident = record { bytes = e .ident i; len = e .before 17 (omega arith) i };
+    date = record { 0 = number-before 4 18 (omega arith) i };
+    payment = e .before 22 (omega arith) i;
+    kind = e .before 23 (omega arith) i;
+  }
+
+byte-elsewhere : (head : List ℕ) (q v : ℕ) → 17 ≤ q → Elsewhere q (q + 1) head (set head q v)
+byte-elsewhere head q v h = record {
+  ident = take-set-le 17 head q v h;
+  before = λ j low. getD-set-other head q j v 0 (omega arith);
+  behind = λ j high. getD-set-other head q j v 0 (omega arith);
+}
+
+take-number : (width : ℕ) (head : List ℕ) (at n : ℕ) → 17 ≤ at → take 17 (withNumber width head at n) ≡ take 17 head
+unfolding withNumber
+take-number zero head at n h = refl
+take-number (suc width) head at n h = take-number width (set head at (n % 256)) (suc at) (n / 256) (omega arith) ∙ take-set-le 17 head at (n % 256) h
+
+number-elsewhere : (head : List ℕ) (at n : ℕ) → 17 ≤ at → Elsewhere at (at + 8) head (withNumber 8 head at n)
+number-elsewhere head at n h =
+    let stored = stored-is-read 8 head at n in
+    record { ident = take-number 8 head at n h; before = stored .before; behind = stored .behind }
+
+stage-back : (stage : Stage) → stageOf (stageByte stage) ≡ stage
+unfolding stageOf
+stage-back Waiting = refl
+stage-back Paired = refl
+stage-back Closed = refl
+
+module _ (head : List ℕ) (rows : List Row) (whole : length head ≡ 64) where
+  stage-stored : (stage : Stage) → shipmentIn (set head 28 (stageByte stage)) rows ≡ withStage stage (shipmentIn head rows)
+  unfolding shipmentIn
+  stage-stored stage =
+      let head′ = set head 28 (stageByte stage) in
+      let e = byte-elsewhere head 28 (stageByte stage) (omega arith) in
+      let there : getD head′ 28 0 ≡ stageByte stage = getD-set-same head 28 (stageByte stage) 0 (omega arith) in
+      let staged = ap stageOf there ∙ stage-back stage in
+      λ i. record {
+        name = same-name 28 29 head head′ e (omega arith) i;
+        fee = number-before 28 29 head head′ e 4 24 (omega arith) i;
+        stage = staged i;
+        goAhead = eqb (e .behind 29 (omega arith) i) 1;
+        acceptedK = number-behind 28 29 head head′ e 8 32 (omega arith) i;
+        acceptedO = number-behind 28 29 head head′ e 8 40 (omega arith) i;
+        returnedK = number-behind 28 29 head head′ e 8 48 (omega arith) i;
+        returnedO = number-behind 28 29 head head′ e 8 56 (omega arith) i;
+        rows = rows;
+      }
+
+  go-ahead-stored : shipmentIn (set head 29 1) rows ≡ withGoAhead (shipmentIn head rows)
+  unfolding shipmentIn
+  go-ahead-stored =
+      let head′ = set head 29 1 in
+      let e = byte-elsewhere head 29 1 (omega arith) in
+      λ i. record {
+        name = same-name 29 30 head head′ e (omega arith) i;
+        fee = number-before 29 30 head head′ e 4 24 (omega arith) i;
+        stage = stageOf (e .before 28 (omega arith) i);
+        goAhead = eqb (getD-set-same head 29 1 0 (omega arith) i) 1;
+        acceptedK = number-behind 29 30 head head′ e 8 32 (omega arith) i;
+        acceptedO = number-behind 29 30 head head′ e 8 40 (omega arith) i;
+        returnedK = number-behind 29 30 head head′ e 8 48 (omega arith) i;
+        returnedO = number-behind 29 30 head head′ e 8 56 (omega arith) i;
+        rows = rows;
+      }
+
+  -- a number in one of the four fields of money
+  module _ (at x : ℕ) (low : 30 ≤ at) (high : at + 8 ≤ 64) (fits : x < 2 ^ 64) where
+    abbrev after : List ℕ
+    after = withNumber 8 head at x
+
+    elsewhere : Elsewhere at (at + 8) head after
+    elsewhere = number-elsewhere head at x (omega arith)
+
+    there : numberAt 8 after at ≡ x
+    there = stored-is-read 8 head at x .back (omega arith) fits
+
+    below : (q : ℕ) → q + 8 ≤ at → numberAt 8 after q ≡ numberAt 8 head q
+    below q h = number-before at (at + 8) head after elsewhere 8 q h
+
+    above : (q : ℕ) → at + 8 ≤ q → numberAt 8 after q ≡ numberAt 8 head q
+    above q h = number-behind at (at + 8) head after elsewhere 8 q h
+
+    -- the shipment, whatever its four fields of money then are
+    with-moneys : (k o rk ro : ℕ) → numberAt 8 after 32 ≡ k → numberAt 8 after 40 ≡ o → numberAt 8 after 48 ≡ rk → numberAt 8 after 56 ≡ ro
+        → shipmentIn after rows ≡ record {
+          name = nameIn head;
+          fee = numberAt 4 head 24;
+          stage = stageOf (getD head 28 0);
+          goAhead = eqb (getD head 29 0) 1;
+          acceptedK = k;
+          acceptedO = o;
+          returnedK = rk;
+          returnedO = ro;
+          rows = rows;
+        }
+    unfolding shipmentIn
+    with-moneys k o rk ro ek eo erk ero = λ i. record {
+      name = same-name at (at + 8) head after elsewhere (omega arith) i;
+      fee = number-before at (at + 8) head after elsewhere 4 24 (omega arith) i;
+      stage = stageOf (elsewhere .before 28 (omega arith) i);
+      goAhead = eqb (elsewhere .before 29 (omega arith) i) 1;
+      acceptedK = ek i;
+      acceptedO = eo i;
+      returnedK = erk i;
+      returnedO = ero i;
+      rows = rows;
+    }
+
+  accepted-stored : (money : Money) (n : ℕ) → accepted money (shipmentIn head rows) + n < 2 ^ 64
+      → shipmentIn (withNumber 8 head (acceptedAt money) (accepted money (shipmentIn head rows) + n)) rows ≡ withAccepted money n (shipmentIn head rows)
+  unfolding shipmentIn
+  accepted-stored K n fits =
+      let x = numberAt 8 head 32 + n in
+      let same : (q : ℕ) → 40 ≤ q → numberAt 8 (withNumber 8 head 32 x) q ≡ numberAt 8 head q = above 32 x (omega arith) (omega arith) fits in
+      with-moneys 32 x (omega arith) (omega arith) fits x (numberAt 8 head 40 + 0) (numberAt 8 head 48) (numberAt 8 head 56)
+      (there 32 x (omega arith) (omega arith) fits) (omega (arith, same 40 (omega arith))) (same 48 (omega arith)) (same 56 (omega arith))
+  accepted-stored O n fits =
+      let x = numberAt 8 head 40 + n in
+      let same : (q : ℕ) → 48 ≤ q → numberAt 8 (withNumber 8 head 40 x) q ≡ numberAt 8 head q = above 40 x (omega arith) (omega arith) fits in
+      with-moneys 40 x (omega arith) (omega arith) fits (numberAt 8 head 32 + 0) x (numberAt 8 head 48) (numberAt 8 head 56)
+      (omega (arith, below 40 x (omega arith) (omega arith) fits 32 (omega arith))) (there 40 x (omega arith) (omega arith) fits)
+      (same 48 (omega arith)) (same 56 (omega arith))
+
+  returned-stored : (money : Money) (n : ℕ) → returned money (shipmentIn head rows) + n < 2 ^ 64
+      → shipmentIn (withNumber 8 head (returnedAt money) (returned money (shipmentIn head rows) + n)) rows ≡ withReturned money n (shipmentIn head rows)
+  unfolding shipmentIn
+  returned-stored K n fits =
+      let x = numberAt 8 head 48 + n in
+      let same : (q : ℕ) → q + 8 ≤ 48 → numberAt 8 (withNumber 8 head 48 x) q ≡ numberAt 8 head q = below 48 x (omega arith) (omega arith) fits in
+      with-moneys 48 x (omega arith) (omega arith) fits (numberAt 8 head 32) (numberAt 8 head 40) x (numberAt 8 head 56 + 0)
+      (same 32 (omega arith)) (same 40 (omega arith)) (there 48 x (omega arith) (omega arith) fits)
+      (omega (arith, above 48 x (omega arith) (omega arith) fits 56 (omega arith)))
+  returned-stored O n fits =
+      let x = numberAt 8 head 56 + n in
+      let same : (q : ℕ) → q + 8 ≤ 56 → numberAt 8 (withNumber 8 head 56 x) q ≡ numberAt 8 head q = below 56 x (omega arith) (omega arith) fits in
+      with-moneys 56 x (omega arith) (omega arith) fits (numberAt 8 head 32) (numberAt 8 head 40) (numberAt 8 head 48 + 0) x
+      (same 32 (omega arith)) (same 40 (omega arith)) (omega (arith, same 48 (omega arith))) (there 56 x (omega arith) (omega arith) fits)
+
+  pub field-stored : FieldStored head rows
+  field-stored = record { stage = stage-stored; go-ahead = go-ahead-stored; accepted = accepted-stored; returned = returned-stored }

@@ -1,0 +1,157 @@
+// A shipment's head: its fields, read from its 64 bytes and stored in place.
+use crate::number::read_eight;
+use crate::number::read_four;
+use crate::number::store_eight;
+use crate::number::wide;
+use model::Stage;
+use money::Money;
+ghost use mathlib.Core.Path.{_≡_};
+ghost use Prim.Native.Nat.{_+_, _≤_, _<_, _^_};
+ghost use lib.ListN.{length, getD, set};
+ghost use Rattle.memory.specs.Number.{numberAt, withNumber};
+ghost use Rattle.memory.specs.Layout.{size, headAt, headBytes};
+ghost use Rattle.memory.specs.Heads.{stageOf, stageByte, goAheadIn, acceptedAt, returnedAt};
+
+pub const HEADS: usize = 64;
+
+// The bytes of head i.
+pub fn head_bytes(memory: &[u8], i: usize) -> &[u8]
+    requires { ⌜ (i < 32) × (size ≤ length (now memory)) ⌝ }
+    ensures { λ r. ⌜ (now r ≡ headBytes (now (memory .entry)) i) × (length (now r) ≡ 64) ⌝ }
+{
+    let at = HEADS + 64 * i;
+    let end = at + 64;
+    &memory[at..end]
+}
+
+// The stage that a byte says.
+fn stage_of(byte: u8) -> Stage
+    ensures { λ r. ⌜ r ≡ stageOf byte ⌝ }
+{
+    if byte == 0 {
+        return Stage::Waiting;
+    }
+    if byte == 1 {
+        return Stage::Paired;
+    }
+    Stage::Closed
+}
+
+// Where the shipment stands.
+pub fn stage(head: &[u8]) -> Stage
+    requires { ⌜ length (now head) ≡ 64 ⌝ }
+    ensures { λ r. ⌜ r ≡ stageOf (getD (now (head .entry)) 28 0) ⌝ }
+{
+    stage_of(head[28])
+}
+
+// Did a go-ahead come?
+pub fn has_go_ahead(head: &[u8]) -> bool
+    requires { ⌜ length (now head) ≡ 64 ⌝ }
+    ensures { λ r. ⌜ r ≡ goAheadIn (now (head .entry)) ⌝ }
+{
+    head[29] == 1
+}
+
+// The fee F.
+pub fn fee(head: &[u8]) -> u64
+    requires { ⌜ length (now head) ≡ 64 ⌝ }
+    ensures { λ r. ⌜ (r ≡ numberAt 4 (now (head .entry)) 24) × (r < 2 ^ 32) ⌝ }
+{
+    read_four(head, 24)
+}
+
+// How many orders the shipment has.
+pub fn orders(head: &[u8]) -> u64
+    requires { ⌜ length (now head) ≡ 64 ⌝ }
+    ensures { λ r. ⌜ (r ≡ numberAt 2 (now (head .entry)) 30) × (r < 2 ^ 16) ⌝ }
+{
+    wide(head[30]) + 0x100 * wide(head[31])
+}
+
+// Where the transfers accepted of a money lie.
+fn accepted_at(money: Money) -> usize
+    ensures { λ r. ⌜ (r ≡ acceptedAt money) × (r ≤ 40) ⌝ }
+{
+    match money {
+        Money::K => 32,
+        Money::O => 40,
+    }
+}
+
+// Where the surplus returned of a money lies.
+fn returned_at(money: Money) -> usize
+    ensures { λ r. ⌜ (r ≡ returnedAt money) × (r ≤ 56) ⌝ }
+{
+    match money {
+        Money::K => 48,
+        Money::O => 56,
+    }
+}
+
+// The transfers accepted of a money.
+pub fn accepted(head: &[u8], money: Money) -> u64
+    requires { ⌜ length (now head) ≡ 64 ⌝ }
+    ensures { λ r. ⌜ r ≡ numberAt 8 (now (head .entry)) (acceptedAt money) ⌝ }
+{
+    let at = accepted_at(money);
+    read_eight(head, at)
+}
+
+// The surplus returned of a money.
+pub fn returned(head: &[u8], money: Money) -> u64
+    requires { ⌜ length (now head) ≡ 64 ⌝ }
+    ensures { λ r. ⌜ r ≡ numberAt 8 (now (head .entry)) (returnedAt money) ⌝ }
+{
+    let at = returned_at(money);
+    read_eight(head, at)
+}
+
+// The byte that says a stage.
+fn stage_byte(stage: Stage) -> u8
+    ensures { λ r. ⌜ r ≡ stageByte stage ⌝ }
+{
+    match stage {
+        Stage::Waiting => 0,
+        Stage::Paired => 1,
+        Stage::Closed => 2,
+    }
+}
+
+// Stores a stage in head i.
+pub fn store_stage(memory: &mut [u8], i: usize, stage: Stage)
+    requires { ⌜ (i < 32) × (size ≤ length (now memory)) ⌝ }
+    ensures { λ _. ⌜ now (memory .exit) ≡ set (now (memory .entry)) (headAt i + 28) (stageByte stage) ⌝ }
+{
+    let at = HEADS + 64 * i;
+    memory[at + 28] = stage_byte(stage);
+}
+
+// Stores in head i that a go-ahead came.
+pub fn store_go_ahead(memory: &mut [u8], i: usize)
+    requires { ⌜ (i < 32) × (size ≤ length (now memory)) ⌝ }
+    ensures { λ _. ⌜ now (memory .exit) ≡ set (now (memory .entry)) (headAt i + 29) 1 ⌝ }
+{
+    let at = HEADS + 64 * i;
+    memory[at + 29] = 1;
+}
+
+// Stores the transfers accepted of a money in head i.
+pub fn store_accepted(memory: &mut [u8], i: usize, money: Money, n: u64)
+    requires { ⌜ (i < 32) × (size ≤ length (now memory)) ⌝ }
+    ensures { λ _. ⌜ now (memory .exit) ≡ withNumber 8 (now (memory .entry)) (headAt i + acceptedAt money) n ⌝ }
+{
+    let at = HEADS + 64 * i;
+    let field = accepted_at(money);
+    store_eight(memory, at + field, n);
+}
+
+// Stores the surplus returned of a money in head i.
+pub fn store_returned(memory: &mut [u8], i: usize, money: Money, n: u64)
+    requires { ⌜ (i < 32) × (size ≤ length (now memory)) ⌝ }
+    ensures { λ _. ⌜ now (memory .exit) ≡ withNumber 8 (now (memory .entry)) (headAt i + returnedAt money) n ⌝ }
+{
+    let at = HEADS + 64 * i;
+    let field = returned_at(money);
+    store_eight(memory, at + field, n);
+}
