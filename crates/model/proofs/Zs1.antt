@@ -1,4 +1,5 @@
--- Document 01's table of shipment ZS1, computed by the checker from the definitions alone, on the bytes of its file and of its titles.
+-- Document 01's table of shipment ZS1 and what stands beside it, computed by the checker from the definitions alone, on the bytes of their files
+-- and titles.
 -- Assumes nothing.
 use mathlib.Core.Path.{refl}
 use Rattle.text.specs.Bytes.{digit, letter, letterOrDigit, lettersOrDigits, same, holds as holdsByte}
@@ -26,21 +27,31 @@ use Rattle.model.specs.Calls.{ask, choose, transferred, goneAhead, paire
 use Rattle.model.specs.Book.{inquire, unlessRefused, sameName, entered, takenIn, transferredIn, step}
 use Rattle.model.specs.Demand.{isFor}
 use Rattle.model.specs.Zs1.{zs1, Table}
+use Rattle.model.specs.Neighbours.{Neighbours}
+
+computed : Table × Neighbours
+unfolding digit letter letterOrDigit lettersOrDigits same holdsByte number numberAfter isNumber valueOf fields onto lines parted withoutLastEnd stray ascii tail lead2 lead3 lead4 point2 point3 point4 surrogate range2 range3 range4 row2 row3 row4 width wellFormedAfter starts codePoints isAmount groszeOf textOf together real leap monthLength inWindow dayNumber daysOfYears daysOfMonths dateOf dateOfNumber dateOfDigits dateInWindow clockTime timeOfNumber timeOfDay firstNo isPassed identifier identOf sameIdent profileFits feesFit nameQuestions nameOf titleQuestions titleOf marked fileQuestions fixedQuestions repeatedQuestions openingQuestions opening sized empty placed housed postcode extra spaced unspaced faultQuestions faultIn faultOf dateQuestions statedQuestions shaped allShaped allPriced total recordQuestions contentsQuestions contents orderOf orders faultyCount need free held anyFaulty ask choose transferred goneAhead paired closed onOrder waiting waitingOrders returnedBy surplusReturned acted inquire unlessRefused sameName entered takenIn transferredIn step isFor zs1
+computed = (
+  record {
+    needs = (refl, refl);
+    line-0 = refl;
+    line-1 = refl;
+    line-2 = refl;
+    line-3 = (refl, refl, refl);
+    line-4 = refl;
+    line-5 = refl;
+    line-6 = refl;
+    line-7 = refl;
+    line-8 = (refl, refl, refl, refl, refl, refl);
+    lines-9-and-10 = refl;
+    line-11 = refl;
+    line-12 = refl;
+  },
+  record { waiting = refl; closing = refl; faultless-file = refl; paired = refl; undelivered = refl },
+)
 
 pub table : Table
-unfolding digit letter letterOrDigit lettersOrDigits same holdsByte number numberAfter isNumber valueOf fields onto lines parted withoutLastEnd stray ascii tail lead2 lead3 lead4 point2 point3 point4 surrogate range2 range3 range4 row2 row3 row4 width wellFormedAfter starts codePoints isAmount groszeOf textOf together real leap monthLength inWindow dayNumber daysOfYears daysOfMonths dateOf dateOfNumber dateOfDigits dateInWindow clockTime timeOfNumber timeOfDay firstNo isPassed identifier identOf sameIdent profileFits feesFit nameQuestions nameOf titleQuestions titleOf marked fileQuestions fixedQuestions repeatedQuestions openingQuestions opening sized empty placed housed postcode extra spaced unspaced faultQuestions faultIn faultOf dateQuestions statedQuestions shaped allShaped allPriced total recordQuestions contentsQuestions contents orderOf orders faultyCount need free held anyFaulty ask choose transferred goneAhead paired closed onOrder waiting waitingOrders returnedBy surplusReturned acted inquire unlessRefused sameName entered takenIn transferredIn step isFor zs1
-table = record {
-  needs = (refl, refl);
-  line-0 = refl;
-  line-1 = refl;
-  line-2 = refl;
-  line-3 = (refl, refl, refl);
-  line-4 = refl;
-  line-5 = refl;
-  line-6 = refl;
-  line-7 = refl;
-  line-8 = (refl, refl, refl, refl, refl, refl);
-  lines-9-and-10 = refl;
-  line-11 = refl;
-  line-12 = refl;
-}
+table = computed .0
+
+pub neighbours : Neighbours
+neighbours = computed .1

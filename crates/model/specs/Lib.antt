@@ -4,3 +4,4 @@ pub mod Book
 pub mod Sound
 pub mod Demand
 pub mod Zs1
+pub mod Neighbours
