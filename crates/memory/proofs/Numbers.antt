@@ -27,7 +27,7 @@ stored-is-read (suc width) m at n =
       as-long = rest .as-long ∙ length-set m at (n % 256);
     }
 
--- four bytes one by one, and eight as two halves
+-- two bytes one by one, and four and eight as two halves
 module _ (m : List ℕ) (at : ℕ) where
   second : at + 1 ≡ suc at
   second = omega arith
@@ -41,9 +41,13 @@ module _ (m : List ℕ) (at : ℕ) where
   fifth : at + 4 ≡ suc (suc (suc (suc at)))
   fifth = omega arith
 
-  pub four-bytes : numberAt 4 m at ≡ getD m at 0 + 256 * getD m (at + 1) 0 + 65_536 * (getD m (at + 2) 0 + 256 * getD m (at + 3) 0)
+  pub two-bytes : numberAt 2 m at ≡ getD m at 0 + 256 * getD m (at + 1) 0
   unfolding numberAt
-  four-bytes = rw (second, third, fourth) (omega arith)
+  two-bytes = rw second (omega arith)
+
+  pub four-bytes : numberAt 4 m at ≡ numberAt 2 m at + 65_536 * numberAt 2 m (at + 2)
+  unfolding numberAt
+  four-bytes = rw third (omega arith)
 
   pub eight-bytes : numberAt 8 m at ≡ numberAt 4 m at + 4_294_967_296 * numberAt 4 m (at + 4)
   unfolding numberAt

@@ -7,14 +7,21 @@ use Prim.Native.Nat.{ℕ, zero, suc, _+_, _-_, _/_, _%_, _<_, _≤_}
 use native.Mathlib.Omega.{arith}
 use borrow.Author.Tests.{ltb-true, ltb-false}
 use lib.Dec.{ltb}
-use lib.ListN.{set, take, drop, length-set}
-use lib.Seq.{drop-set-lt, drop-set-add, take-set-le, take-set-lt, getD-set-other}
+use lib.ListN.{length, set, take, drop, length-set, length-drop}
+use lib.Seq.{length-take-le, drop-set-lt, drop-set-add, take-set-le, take-set-lt, getD-set-other}
 use Rattle.text.proofs.Branches.{either-way}
 use Rattle.memory.specs.Layout.{headAt, rowAt, headBytes, rowBytes, OnlyRow, OnlyHead}
 use Rattle.memory.specs.Number.{withNumber}
 
 -- any part of a list
 module _ (m : List ℕ) (at n : ℕ) where
+  pub part-long : at + n ≤ length m → length (take n (drop at m)) ≡ n
+  part-long enough = length-take-le n (drop at m) (simp length-drop (omega arith))
+
+  -- as code takes it, from `at` up to `at + n`
+  pub part-there : at + n ≤ length m → (take (at + n - at) (drop at m) ≡ take n (drop at m)) × (length (take (at + n - at) (drop at m)) ≡ n)
+  part-there enough = let width : at + n - at ≡ n = omega arith in rw width (refl, part-long enough)
+
   outside : (p v : ℕ) → (p < at) ⊎ (at + n ≤ p) → take n (drop at (set m p v)) ≡ take n (drop at m)
   outside p v =
       ⊎-elim (λ before. ap (take n) (drop-set-lt at m p v before))

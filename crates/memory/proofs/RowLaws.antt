@@ -8,8 +8,8 @@ use native.Mathlib.Nat.{mod-eq-of-lt}
 use native.Mathlib.Omega.{arith}
 use borrow.Author.Tests.{leb-true}
 use lib.Dec.{leb}
-use lib.ListN.{length, getD, set, drop, length-set, length-drop}
-use lib.Seq.{length-take-le, getD-set-same, getD-set-other}
+use lib.ListN.{length, getD, set, length-set}
+use lib.Seq.{getD-set-same, getD-set-other}
 use Rattle.text.proofs.Branches.{and-right}
 use Rattle.model.specs.Calls.{withState}
 use Rattle.model.specs.declared.State.{State}
@@ -17,7 +17,7 @@ use Rattle.model.specs.declared.State.the-variants.{Open, Posted, Paid, Faulty,
 use Rattle.memory.specs.Number.{numberAt}
 use Rattle.memory.specs.Layout.{size, rowAt, rowBytes}
 use Rattle.memory.specs.Rows.{stateOf, rowOf, tagOf, faultOf, waitsOf, withStateAt, StateIsReadBack, StateStored}
-use Rattle.memory.proofs.Parts.{row-byte, row-byte-only, only-row-then}
+use Rattle.memory.proofs.Parts.{part-long, row-byte, row-byte-only, only-row-then}
 
 fits-a-byte : (fault : ℕ) → (leb 1 fault && leb fault 10) ≡ true → fault % 256 ≡ fault
 fits-a-byte fault h = mod-eq-of-lt (omega (arith, leb-true fault 10 (and-right (leb 1 fault) (leb fault 10) h)))
@@ -94,7 +94,7 @@ module _ (m : List ℕ) (k : ℕ) (state : State) where
 
   eight-bytes : k < 2_048 → size ≤ length m → length (rowBytes m k) ≡ 8
   unfolding rowBytes
-  eight-bytes there enough = length-take-le 8 (drop (rowAt k) m) (simp length-drop (omega arith))
+  eight-bytes there enough = part-long m (rowAt k) 8 (omega arith)
 
   pub state-stored : StateStored m k state
   unfolding withStateAt

@@ -1,8 +1,8 @@
 // A shipment's head: its fields, read from its 64 bytes and stored in place.
 use crate::number::read_eight;
 use crate::number::read_four;
+use crate::number::read_two;
 use crate::number::store_eight;
-use crate::number::wide;
 use model::Stage;
 use money::Money;
 ghost use mathlib.Core.Path.{_≡_};
@@ -66,7 +66,7 @@ pub fn orders(head: &[u8]) -> u64
     requires { ⌜ length (now head) ≡ 64 ⌝ }
     ensures { λ r. ⌜ (r ≡ numberAt 2 (now (head .entry)) 30) × (r < 2 ^ 16) ⌝ }
 {
-    wide(head[30]) + 0x100 * wide(head[31])
+    read_two(head, 30)
 }
 
 // Where the transfers accepted of a money lie.

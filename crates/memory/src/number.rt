@@ -5,10 +5,18 @@ ghost use lib.ListN.{length};
 ghost use Rattle.memory.specs.Number.{numberAt, withNumber};
 
 // A byte as a number.
-pub fn wide(byte: u8) -> u64
+fn wide(byte: u8) -> u64
     ensures { λ r. ⌜ (r ≡ byte) × (r < 256) ⌝ }
 {
     byte as u64
+}
+
+// The two bytes from a place on, as a number.
+pub fn read_two(memory: &[u8], at: usize) -> u64
+    requires { ⌜ at + 2 ≤ length (now memory) ⌝ }
+    ensures { λ r. ⌜ (r ≡ numberAt 2 (now (memory .entry)) at) × (r < 2 ^ 16) ⌝ }
+{
+    wide(memory[at]) + 0x100 * wide(memory[at + 1])
 }
 
 // The four bytes from a place on, as a number.
@@ -16,9 +24,7 @@ pub fn read_four(memory: &[u8], at: usize) -> u64
     requires { ⌜ at + 4 ≤ length (now memory) ⌝ }
     ensures { λ r. ⌜ (r ≡ numberAt 4 (now (memory .entry)) at) × (r < 2 ^ 32) ⌝ }
 {
-    let low = wide(memory[at]) + 0x100 * wide(memory[at + 1]);
-    let high = wide(memory[at + 2]) + 0x100 * wide(memory[at + 3]);
-    low + 0x1_0000 * high
+    read_two(memory, at) + 0x1_0000 * read_two(memory, at + 2)
 }
 
 // The eight bytes from a place on, as a number.

@@ -1,10 +1,8 @@
 -- `memory::head::head_bytes` is a part of the memory.
-use mathlib.Core.Path.{_≡_, refl}
-use Prim.Native.Nat.{_+_, _-_, _*_, _≤_}
+use Prim.Native.Nat.{_+_, _*_}
 use native.Mathlib.Omega.{arith}
-use lib.ListN.{length, drop, length-drop}
-use lib.Seq.{length-take-le}
 use Rattle.memory.specs.Layout.{headBytes}
+use Rattle.memory.proofs.Parts.{part-there}
 use borrow.Author.Needs.{needs}
 use Rattle.memory.proofs.head.head_bytes.Statement.{statement}
 use Rattle.memory.proofs.head.head_bytes.Tie as tie
@@ -29,12 +27,7 @@ part-result-end c = search needs
 
 returns : tie.Need-returns
 unfolding headBytes
-returns c =
-    let start = c .before .args in
-    let at = 64 + 64 * start .i in
-    let width : at + 64 - at ≡ 64 = omega arith in
-    let enough : 64 ≤ length (drop at (start .memory .now)) = simp length-drop (omega arith) in
-    rw width (refl, length-take-le 64 (drop at (start .memory .now)) enough)
+returns c = let start = c .before .args in part-there (start .memory .now) (64 + 64 * start .i) 64 (omega arith)
 
 pub head-bytes-spec : {M : Type 1} → statement M
 head-bytes-spec =

@@ -1,54 +1,18 @@
--- `memory::number::read_four` adds up four bytes.
+-- `memory::number::read_four` joins two halves.
 use native.Mathlib.Omega.{arith}
 use Rattle.memory.proofs.Numbers.{four-bytes}
 use borrow.Author.Needs.{needs}
 use Rattle.memory.proofs.number.read_four.Statement.{statement}
 use Rattle.memory.proofs.number.read_four.Tie as tie
 
-shared-slice-read-wide : tie.Need-shared-slice-read-wide
-shared-slice-read-wide c = search needs
+read-two-requires : tie.Need-read-two-requires
+read-two-requires c κs = search needs
 
-wide-requires : tie.Need-wide-requires
-wide-requires c κs = search needs
+add-read-two : tie.Need-add-read-two
+add-read-two c = search needs
 
-add-wide : tie.Need-add-wide
-add-wide c = search needs
-
-shared-slice-read-wide-2 : tie.Need-shared-slice-read-wide-2
-shared-slice-read-wide-2 c = search needs
-
-wide-requires-2 : tie.Need-wide-requires-2
-wide-requires-2 c κs = search needs
-
-mul-low : tie.Need-mul-low
-mul-low c = search needs
-
-add-low : tie.Need-add-low
-add-low c = search needs
-
-add-wide-2 : tie.Need-add-wide-2
-add-wide-2 c = search needs
-
-shared-slice-read-wide-3 : tie.Need-shared-slice-read-wide-3
-shared-slice-read-wide-3 c = search needs
-
-wide-requires-3 : tie.Need-wide-requires-3
-wide-requires-3 c κs = search needs
-
-add-wide-3 : tie.Need-add-wide-3
-add-wide-3 c = search needs
-
-shared-slice-read-wide-4 : tie.Need-shared-slice-read-wide-4
-shared-slice-read-wide-4 c = search needs
-
-wide-requires-4 : tie.Need-wide-requires-4
-wide-requires-4 c κs = search needs
-
-mul-high : tie.Need-mul-high
-mul-high c = search needs
-
-add-high : tie.Need-add-high
-add-high c = search needs
+read-two-requires-2 : tie.Need-read-two-requires-2
+read-two-requires-2 c κs = search needs
 
 mul-result : tie.Need-mul-result
 mul-result c = search needs
@@ -58,29 +22,10 @@ add-result c = search needs
 
 returns : tie.Need-returns
 returns c =
-    let start = c .before .before .before .before .before .before .before .before .before .args in
-    let sum = four-bytes (start .memory .now) (start .at) in
-    (omega (arith, sum), omega arith)
+    let start = c .before .before .before .args in
+    (omega (arith, four-bytes (start .memory .now) (start .at)), omega arith)
 
 pub read-four-spec : {M : Type 1} → statement M
 read-four-spec =
     tie.close
-    (tie.spec
-    shared-slice-read-wide
-    wide-requires
-    add-wide
-    shared-slice-read-wide-2
-    wide-requires-2
-    mul-low
-    add-low
-    add-wide-2
-    shared-slice-read-wide-3
-    wide-requires-3
-    add-wide-3
-    shared-slice-read-wide-4
-    wide-requires-4
-    mul-high
-    add-high
-    mul-result
-    add-result
-    returns)
+    (tie.spec read-two-requires add-read-two read-two-requires-2 mul-result add-result returns)

@@ -1,10 +1,8 @@
 -- `memory::row::row_bytes` is a part of the memory.
-use mathlib.Core.Path.{_≡_, refl}
-use Prim.Native.Nat.{_+_, _-_, _*_, _≤_}
+use Prim.Native.Nat.{_+_, _*_}
 use native.Mathlib.Omega.{arith}
-use lib.ListN.{length, drop, length-drop}
-use lib.Seq.{length-take-le}
 use Rattle.memory.specs.Layout.{rowBytes}
+use Rattle.memory.proofs.Parts.{part-there}
 use borrow.Author.Needs.{needs}
 use Rattle.memory.proofs.row.row_bytes.Statement.{statement}
 use Rattle.memory.proofs.row.row_bytes.Tie as tie
@@ -29,12 +27,7 @@ part-result-end c = search needs
 
 returns : tie.Need-returns
 unfolding rowBytes
-returns c =
-    let start = c .before .args in
-    let at = 2_112 + 8 * start .k in
-    let eight : at + 8 - at ≡ 8 = omega arith in
-    let enough : 8 ≤ length (drop at (start .memory .now)) = simp length-drop (omega arith) in
-    rw eight (refl, length-take-le 8 (drop at (start .memory .now)) enough)
+returns c = let start = c .before .args in part-there (start .memory .now) (2_112 + 8 * start .k) 8 (omega arith)
 
 pub row-bytes-spec : {M : Type 1} → statement M
 row-bytes-spec =

@@ -1,15 +1,18 @@
--- `memory::head::orders` adds up two bytes.
+-- `memory::number::read_two` adds up two bytes.
 use native.Mathlib.Omega.{arith}
-use Rattle.memory.specs.Number.{numberAt}
+use Rattle.memory.proofs.Numbers.{two-bytes}
 use borrow.Author.Needs.{needs}
-use Rattle.memory.proofs.head.orders.Statement.{statement}
-use Rattle.memory.proofs.head.orders.Tie as tie
+use Rattle.memory.proofs.number.read_two.Statement.{statement}
+use Rattle.memory.proofs.number.read_two.Tie as tie
 
 shared-slice-read-wide : tie.Need-shared-slice-read-wide
 shared-slice-read-wide c = search needs
 
 wide-requires : tie.Need-wide-requires
 wide-requires c κs = search needs
+
+add-wide : tie.Need-add-wide
+add-wide c = search needs
 
 shared-slice-read-wide-2 : tie.Need-shared-slice-read-wide-2
 shared-slice-read-wide-2 c = search needs
@@ -24,15 +27,17 @@ add-result : tie.Need-add-result
 add-result c = search needs
 
 returns : tie.Need-returns
-unfolding numberAt
-returns c = (omega arith, omega arith)
+returns c =
+    let start = c .before .before .before .before .before .args in
+    (omega (arith, two-bytes (start .memory .now) (start .at)), omega arith)
 
-pub orders-spec : {M : Type 1} → statement M
-orders-spec =
+pub read-two-spec : {M : Type 1} → statement M
+read-two-spec =
     tie.close
     (tie.spec
     shared-slice-read-wide
     wide-requires
+    add-wide
     shared-slice-read-wide-2
     wide-requires-2
     mul-result
