@@ -77,6 +77,12 @@ pub and-right : (t u : Bool) → (t && u) ≡ true → u ≡ true
 and-right true u h = h
 and-right false u h = cc
 
+-- two tests, each of which holds where the other does
+pub both-ways : (t u : Bool) → (t ≡ true → u ≡ true) → (u ≡ true → t ≡ true) → t ≡ u
+both-ways true u forth back = sym (forth refl)
+both-ways false true forth back = back refl
+both-ways false false forth back = refl
+
 -- what holds of both ways of a choice holds of the choice
 pub cond-either : {A : Type 0} (P : A → Type 0) (t : Bool) (a b : A) → (t ≡ true → P a) → (t ≡ false → P b) → P (cond t a b)
 cond-either P true a b f g = f refl

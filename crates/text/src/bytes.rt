@@ -6,7 +6,7 @@ ghost use lib.ListN.{length, getD, take, drop};
 ghost use Rattle.text.specs.Bytes.{between, digit, letter, letterOrDigit, lettersOrDigits, part, same, holds, before};
 
 // Is the byte from low to high?
-fn is_between(low: u8, high: u8, b: u8) -> bool
+pub fn is_between(low: u8, high: u8, b: u8) -> bool
     ensures { λ r. ⌜ r ≡ between low high b ⌝ }
 {
     low <= b && b <= high
