@@ -15,13 +15,15 @@ use Rattle.epe.specs.Name.{titleOf}
 use Rattle.epe.specs.declared.ident.Ident.{Ident}
 use Rattle.model.specs.Shipment.{of, Shipment, accepted, returned, isWaiting, isPaired, when, sum, waits, worth, need}
 use Rattle.model.specs.Shipment.{needOncePaired, free, holds, held}
-use Rattle.model.specs.Calls.{Deed, Post, Pay, MarkUndelivered, Withdraw, Act, GoAhead, Pair, Close, OnOrder, Return, Call, Transfer, On}
+use Rattle.model.specs.Calls.{Act, GoAhead, Pair, Close, OnOrder, Return, Call, Transfer, On}
 use Rattle.model.specs.Calls.{Answer, Done, IsPaired, Short, Returned, isRefusal, Outcome, leave, ask}
 use Rattle.model.specs.Calls.{withStage, withGoAhead, withAccepted, withReturned, withRows, withState}
 use Rattle.model.specs.Calls.{transferred, goneAhead, paired, closed, fits, becomes, says, noOrder, orderAt, onOrder}
 use Rattle.model.specs.Calls.{takes, waitsOn, cleared, afterReturn, waiting, returnedBy, surplusReturned, acted}
 use Rattle.model.specs.Sound.{beforePairing, rowSound, rowsSound}
 use Rattle.model.specs.Demand.{isMoney, acceptedBy, leftBy}
+use Rattle.model.specs.declared.Deed.{Deed}
+use Rattle.model.specs.declared.Deed.the-variants.{Post, Pay, MarkUndelivered, Withdraw}
 use Rattle.model.specs.declared.Route.{Route}
 use Rattle.model.specs.declared.Route.the-variants.{Zwr, Opr, Zpr, Zzr}
 use Rattle.model.specs.declared.Row.{Row}

@@ -14,12 +14,14 @@ use Rattle.money.specs.Money.{sumCap}
 use Rattle.money.specs.declared.Money.{Money}
 use Rattle.money.specs.declared.Money.the-variants.{K, O}
 use Rattle.model.specs.Shipment.{Shipment, accepted, returned, isWaiting, isPaired, when, sum, isFaulty, need, needOncePaired, free, anyFaulty}
-use Rattle.model.specs.Calls.{Deed, Post, Pay, MarkUndelivered, Withdraw, Act, GoAhead, Pair, Close, OnOrder, Return}
+use Rattle.model.specs.Calls.{Act, GoAhead, Pair, Close, OnOrder, Return}
 use Rattle.model.specs.Calls.{Answer, Refused, Done, IsPaired, Outcome, leave, ask}
 use Rattle.model.specs.Calls.{withStage, withGoAhead, withAccepted, withReturned, withRows, withState}
 use Rattle.model.specs.Calls.{transferred, goneAhead, paired, closed, fits, becomes, says, noOrder, orderAt, onOrder}
 use Rattle.model.specs.Calls.{waitsOn, cleared, afterReturn, returnedBy, surplusReturned, acted}
 use Rattle.model.specs.Sound.{faultInRange, rowSound, rowsSound}
+use Rattle.model.specs.declared.Deed.{Deed}
+use Rattle.model.specs.declared.Deed.the-variants.{Post, Pay, MarkUndelivered, Withdraw}
 use Rattle.model.specs.declared.Route.{Route}
 use Rattle.model.specs.declared.Route.the-variants.{Zwr, Opr, Zpr, Zzr}
 use Rattle.model.specs.declared.Row.{Row}

@@ -17,12 +17,14 @@ use Rattle.money.specs.declared.Money.{Money}
 use Rattle.money.specs.declared.Money.the-variants.{K, O}
 use Rattle.epe.specs.declared.ident.Ident.{Ident}
 use Rattle.model.specs.Shipment.{of, Shipment, when, sum, isOpen, isPosted, waits, worth, free, holds}
-use Rattle.model.specs.Calls.{Deed, Post, Pay, MarkUndelivered, Withdraw, Act, GoAhead, Pair, Close, OnOrder, Return, Call, On}
+use Rattle.model.specs.Calls.{Act, GoAhead, Pair, Close, OnOrder, Return, Call, On}
 use Rattle.model.specs.Calls.{Answer, Refused, Done, Accepted, IsPaired, Short, FeeEarned, AmountPaid, Returned, isRefusal}
 use Rattle.model.specs.Calls.{Outcome, leave, ask, withStage, withGoAhead, withReturned, withRows, withState, transferred, goneAhead, paired, closed}
 use Rattle.model.specs.Calls.{fits, becomes, says, noOrder, orderAt, onOrder}
 use Rattle.model.specs.Calls.{takes, waitsOn, cleared, afterReturn, waiting, waitingOrders, returnedBy, surplusReturned, acted}
 use Rattle.model.specs.Demand.{isMoney, leftBy, orderOf, isOfOrder, isReturnOf, waitEnds, leavesBy, below, surplusOf, surplusBy, countIs}
+use Rattle.model.specs.declared.Deed.{Deed}
+use Rattle.model.specs.declared.Deed.the-variants.{Post, Pay, MarkUndelivered, Withdraw}
 use Rattle.model.specs.declared.Route.{Route}
 use Rattle.model.specs.declared.Route.the-variants.{Zwr, Opr, Zpr, Zzr}
 use Rattle.model.specs.declared.Row.{Row}

@@ -12,7 +12,9 @@ use Rattle.text.proofs.Branches.{and-left, and-right}
 use Rattle.money.specs.declared.Money.{Money}
 use Rattle.money.specs.declared.Money.the-variants.{K, O}
 use Rattle.model.specs.Shipment.{Shipment, accepted, isWaiting, isPaired, when, sum, isOpen, isPosted, need, needOncePaired}
-use Rattle.model.specs.Calls.{Deed, Post, Pay, MarkUndelivered, Withdraw, fits}
+use Rattle.model.specs.Calls.{fits}
+use Rattle.model.specs.declared.Deed.{Deed}
+use Rattle.model.specs.declared.Deed.the-variants.{Post, Pay, MarkUndelivered, Withdraw}
 use Rattle.model.specs.declared.Row.{Row}
 use Rattle.model.specs.declared.Stage.{Stage}
 use Rattle.model.specs.declared.Stage.the-variants.{Waiting, Paired, Closed}

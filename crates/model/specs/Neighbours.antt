@@ -4,11 +4,12 @@ use mathlib.Core.List.{List, [], _∷_, map}
 use Rattle.text.specs.Quoted.{bytes}
 use Rattle.money.specs.declared.Money.the-variants.{K, O}
 use Rattle.epe.specs.Ident.{identOf}
-use Rattle.model.specs.Calls.{Post, Pay, MarkUndelivered, Withdraw, GoAhead, Pair, Close, OnOrder, Return, Call, Intake, Transfer, On}
+use Rattle.model.specs.Calls.{GoAhead, Pair, Close, OnOrder, Return, Call, Intake, Transfer, On}
 use Rattle.model.specs.Calls.{Answer, Refused, Done, Accepted, FeeEarned, Returned}
 use Rattle.model.specs.Book.{Book}
 use Rattle.model.specs.Demand.{Event, events, bookAt}
 use Rattle.model.specs.Zs1.{profile, intake, titleK, titleO, zs1, calls as story}
+use Rattle.model.specs.declared.Deed.the-variants.{Post, Pay, MarkUndelivered, Withdraw}
 use Rattle.model.specs.declared.Route.the-variants.{Zwr, Opr, Zpr}
 
 abbrev pub answersFrom : Book → List Call → List Answer

@@ -12,10 +12,11 @@ use Rattle.epe.specs.Ident.{identOf}
 use Rattle.epe.specs.declared.ident.Ident.{Ident}
 use Rattle.epe.specs.declared.profile.Profile.{Profile}
 use Rattle.model.specs.Shipment.{need, sum}
-use Rattle.model.specs.Calls.{Post, Pay, Withdraw, GoAhead, Pair, OnOrder, Return, Call, Intake, Transfer, On}
+use Rattle.model.specs.Calls.{GoAhead, Pair, OnOrder, Return, Call, Intake, Transfer, On}
 use Rattle.model.specs.Calls.{Answer, Refused, Done, Accepted, IsPaired, Short, FeeEarned, AmountPaid, Returned}
 use Rattle.model.specs.Book.{find, step}
 use Rattle.model.specs.Demand.{Event, bookAt, between, ofShipment, heldIn, freeIn, leftFor}
+use Rattle.model.specs.declared.Deed.the-variants.{Post, Pay, Withdraw}
 use Rattle.model.specs.declared.Route.the-variants.{Zwr, Opr, Zzr}
 
 -- "ZS1: orders 100.00, 50.00 (no surname), 25.50; F 350", behind a header: the bytes of its file.

@@ -31,3 +31,11 @@ pub struct Row {
     pub amount: Amount,
     pub state: State,
 }
+
+// What is done with one order.
+pub enum Deed {
+    Post,
+    Pay,
+    MarkUndelivered,
+    Withdraw,
+}
