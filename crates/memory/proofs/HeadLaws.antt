@@ -1,21 +1,24 @@
 -- A field stored in a head is read back, and every other field of it is as it was.
 -- Assumes nothing.
 use mathlib.Core.Path.{_≡_, refl, ap, _∙_}
+use mathlib.Core.Bool.{true}
 use mathlib.Core.List.{List}
 use Prim.Native.Nat.{ℕ, zero, suc, _+_, _/_, _%_, _^_, _<_, _≤_}
 use native.Mathlib.Omega.{arith}
-use lib.Dec.{eqb}
+use borrow.Author.Tests.{eqb-true}
+use lib.Dec.{eqb, leb}
 use lib.ListN.{length, getD, set, take}
 use lib.Seq.{take-set-le, getD-set-same, getD-set-other}
+use Rattle.text.proofs.Branches.{either-way, and-left, and-right, both-yes}
 use Rattle.money.specs.declared.Money.{Money}
 use Rattle.money.specs.declared.Money.the-variants.{K, O}
-use Rattle.model.specs.Shipment.{accepted, returned}
+use Rattle.model.specs.Shipment.{accepted, returned, isWaiting, isPaired}
 use Rattle.model.specs.Calls.{withStage, withGoAhead, withAccepted, withReturned}
 use Rattle.model.specs.declared.Row.{Row}
 use Rattle.model.specs.declared.Stage.{Stage}
 use Rattle.model.specs.declared.Stage.the-variants.{Waiting, Paired, Closed}
 use Rattle.memory.specs.Number.{numberAt, withNumber}
-use Rattle.memory.specs.Heads.{nameIn, stageOf, stageByte, acceptedAt, returnedAt, shipmentIn, FieldStored}
+use Rattle.memory.specs.Heads.{nameIn, stageOf, stageByte, flagsInForm, acceptedAt, returnedAt, shipmentIn, FieldStored}
 use Rattle.memory.proofs.Numbers.{stored-is-read}
 
 -- Two heads that are the same outside the bytes from one place up to another, which lie behind the name and the fee.
@@ -63,11 +66,60 @@ number-elsewhere head at n h =
     let stored = stored-is-read 8 head at n in
     record { ident = take-number 8 head at n h; before = stored .before; behind = stored .behind }
 
+-- Two heads with the same number of orders, the second's flags in form where the first's are.
+pub record FormKept (head head′ : List ℕ) : Type 0 where
+  pub orders : numberAt 2 head′ 30 ≡ numberAt 2 head 30
+  pub flags : flagsInForm head ≡ true → flagsInForm head′ ≡ true
+
+pub number-keeps-form : (head : List ℕ) (at n : ℕ) → 32 ≤ at → FormKept head (withNumber 8 head at n)
+number-keeps-form head at n h =
+    let e = number-elsewhere head at n (omega arith) in
+    record {
+      orders = number-before at (at + 8) head (withNumber 8 head at n) e 2 30 (omega arith);
+      flags = λ form. rw (e .before 28 (omega arith), e .before 29 (omega arith)) form;
+    }
+
+pub stage-keeps-form : (head : List ℕ) (stage : Stage) → length head ≡ 64 → FormKept head (set head 28 (stageByte stage))
+stage-keeps-form head stage whole =
+    let e = byte-elsewhere head 28 (stageByte stage) (omega arith) in
+    record {
+      orders = number-behind 28 29 head (set head 28 (stageByte stage)) e 2 30 (omega arith);
+      flags = λ form.
+          rw (getD-set-same head 28 (stageByte stage) 0 (omega arith), e .behind 29 (omega arith))
+          (both-yes (leb (stageByte stage) 2) (leb (getD head 29 0) 1) (by stage) (and-right (leb (getD head 28 0) 2) (leb (getD head 29 0) 1) form));
+    }
+  where
+    by : (stage : Stage) → leb (stageByte stage) 2 ≡ true
+    by Waiting = refl
+    by Paired = refl
+    by Closed = refl
+
+pub go-ahead-keeps-form : (head : List ℕ) → length head ≡ 64 → FormKept head (set head 29 1)
+go-ahead-keeps-form head whole =
+    let e = byte-elsewhere head 29 1 (omega arith) in
+    record {
+      orders = number-behind 29 30 head (set head 29 1) e 2 30 (omega arith);
+      flags = λ form.
+          rw (getD-set-same head 29 1 0 (omega arith), e .before 28 (omega arith))
+          (both-yes (leb (getD head 28 0) 2) true (and-left (leb (getD head 28 0) 2) (leb (getD head 29 0) 1) form) refl);
+    }
+
 stage-back : (stage : Stage) → stageOf (stageByte stage) ≡ stage
 unfolding stageOf
 stage-back Waiting = refl
 stage-back Paired = refl
 stage-back Closed = refl
+
+-- a stage, by its byte
+pub waiting-byte : (byte : ℕ) → eqb byte 0 ≡ isWaiting (stageOf byte)
+unfolding stageOf
+waiting-byte byte = either-way (eqb byte 0) (λ zero. rw zero) (λ other. rw other (either-way (eqb byte 1) (λ one. rw one) (λ more. rw more)))
+
+pub paired-byte : (byte : ℕ) → eqb byte 1 ≡ isPaired (stageOf byte)
+unfolding stageOf
+paired-byte byte =
+    either-way (eqb byte 0) (λ zero. rw zero (ap (λ b. eqb b 1) (eqb-true byte 0 zero)))
+    (λ other. rw other (either-way (eqb byte 1) (λ one. rw one) (λ more. rw more)))
 
 module _ (head : List ℕ) (rows : List Row) (whole : length head ≡ 64) where
   stage-stored : (stage : Stage) → shipmentIn (set head 28 (stageByte stage)) rows ≡ withStage stage (shipmentIn head rows)

@@ -2,4 +2,6 @@ pub mod Numbers
 pub mod Parts
 pub mod RowLaws
 pub mod HeadLaws
+pub mod NameLaws
 pub mod ReadLaws
+pub mod Examples

@@ -1,12 +1,17 @@
--- A number stored is read back, whatever its width, and no other byte moves.
+-- A number stored is read back, whatever its width, and no other byte moves; two numbers are equal just where their bytes are.
 -- Assumes nothing.
-use mathlib.Core.Path.{_≡_, refl, _∙_}
+use mathlib.Core.Path.{_≡_, refl, sym, ap, _∙_}
+use mathlib.Core.Bool.{Bool, _&&_, and-assoc}
 use mathlib.Core.List.{List}
-use Prim.Native.Nat.{ℕ, zero, suc, _+_, _*_, _/_, _%_}
+use Prim.Native.Nat.{ℕ, zero, suc, _+_, _*_, _/_, _%_, _<_, _≤_}
 use native.Mathlib.Omega.{arith}
-use native.Mathlib.Nat.{pow-suc, div-div-eq-div-mul}
-use lib.ListN.{getD, set, length-set}
-use lib.Seq.{getD-set-same, getD-set-other}
+use native.Mathlib.Nat.{pow-suc, div-div-eq-div-mul, zero-add, add-zero, suc-add}
+use borrow.Author.Tests.{eq-eqb, eqb-true}
+use lib.Dec.{eqb}
+use lib.ListN.{length, getD, set, take, drop, length-set}
+use lib.Seq.{getD-set-same, getD-set-other, drop-cons}
+use Rattle.text.specs.Bytes.{same}
+use Rattle.text.proofs.Branches.{and-left, and-right, both-yes, both-ways}
 use Rattle.memory.specs.Number.{numberAt, withNumber, StoredIsRead}
 
 pub stored-is-read : (width : ℕ) (m : List ℕ) (at n : ℕ) → StoredIsRead width m at n
@@ -65,3 +70,40 @@ module _ (m : List ℕ) (at : ℕ) where
   eight-stored n =
       rw fifth
       (rw (div-div-eq-div-mul (n / 256 / 256) 256 256, div-div-eq-div-mul (n / 256) 256 65_536, div-div-eq-div-mul n 256 16_777_216) refl)
+
+-- Numbers of the same width, read at the same place of two lists of bytes.
+abbrev pub alike : List ℕ → List ℕ → ℕ → ℕ → Bool
+alike a b width at = eqb (numberAt width a at) (numberAt width b at)
+
+by-least-byte : (x y m n : ℕ) → x < 256 → y < 256 → eqb (x + 256 * m) (y + 256 * n) ≡ (eqb x y && eqb m n)
+by-least-byte x y m n low-x low-y =
+    both-ways (eqb (x + 256 * m) (y + 256 * n)) (eqb x y && eqb m n)
+    (λ whole. both-yes (eqb x y) (eqb m n) (eq-eqb x y (omega (arith, eqb-true))) (eq-eqb m n (omega (arith, eqb-true))))
+    (λ parts.
+    let least = eqb-true x y (and-left (eqb x y) (eqb m n) parts) in
+    let rest = eqb-true m n (and-right (eqb x y) (eqb m n) parts) in
+    eq-eqb (x + 256 * m) (y + 256 * n) (omega arith))
+
+module _ (a b : List ℕ) (bytes-a : (j : ℕ) → getD a j 0 < 256) (bytes-b : (j : ℕ) → getD b j 0 < 256) where
+  by-first-byte : (width at : ℕ) → alike a b (suc width) at ≡ (eqb (getD a at 0) (getD b at 0) && alike a b width (suc at))
+  unfolding numberAt
+  by-first-byte width at =
+      by-least-byte (getD a at 0) (getD b at 0) (numberAt width a (suc at)) (numberAt width b (suc at)) (bytes-a at) (bytes-b at)
+
+  pub by-parts : (m n at : ℕ) → alike a b (m + n) at ≡ (alike a b m at && alike a b n (at + m))
+  unfolding numberAt
+  by-parts zero n at = rw (zero-add n, add-zero at)
+  by-parts (suc m) n at =
+      let further : at + suc m ≡ suc at + m = omega arith in
+      rw (suc-add m n, further, by-first-byte (m + n) at, by-first-byte m at, by-parts m n (suc at))
+      (sym (and-assoc (eqb (getD a at 0) (getD b at 0)) (alike a b m (suc at)) (alike a b n (suc at + m))))
+
+  pub by-bytes : (width at : ℕ) → at + width ≤ length a → at + width ≤ length b
+      → alike a b width at ≡ same (take width (drop at a)) (take width (drop at b))
+  unfolding numberAt same
+  by-bytes zero at long-a long-b = refl
+  by-bytes (suc width) at long-a long-b =
+      let there-a : at < length a = omega arith in
+      let there-b : at < length b = omega arith in
+      rw (drop-cons a at 0, drop-cons b at 0)
+      (by-first-byte width at ∙ ap (λ rest. eqb (getD a at 0) (getD b at 0) && rest) (by-bytes width (suc at) (omega arith) (omega arith)))

@@ -34,6 +34,30 @@ module _ (m : List ℕ) (at n : ℕ) where
   inside : (q v : ℕ) → q < n → take n (drop at (set m (at + q) v)) ≡ set (take n (drop at m)) q v
   inside q v h = ap (take n) (drop-set-add at m q v) ∙ take-set-lt n (drop at m) q v h
 
+-- a number in any part, byte after byte
+number-inside : (width : ℕ) (m : List ℕ) (at n q x : ℕ) → q + width ≤ n
+    → take n (drop at (withNumber width m (at + q) x)) ≡ withNumber width (take n (drop at m)) q x
+unfolding withNumber
+number-inside zero m at n q x within = refl
+number-inside (suc width) m at n q x within =
+    let first = set m (at + q) (x % 256) in
+    let next : at + suc q ≡ suc (at + q) = omega arith in
+    ap (λ p. take n (drop at (withNumber width first p (x / 256)))) (sym next)
+    ∙ number-inside width first at n (suc q) (x / 256) (omega arith)
+    ∙ ap (λ part. withNumber width part (suc q) (x / 256)) (inside m at n q (x % 256) (omega arith))
+
+-- and what each byte stored in a part leaves alone, a number stored there does
+module _ (Only : List ℕ → List ℕ → Type 0) (none : (m : List ℕ) → Only m m) (then : (l m n : List ℕ) → Only l m → Only m n → Only l n)
+    (at n : ℕ) (byte : (m : List ℕ) (q v : ℕ) → q < n → Only m (set m (at + q) v)) where
+  number-only : (width : ℕ) (m : List ℕ) (q x : ℕ) → q + width ≤ n → Only m (withNumber width m (at + q) x)
+  unfolding withNumber
+  number-only zero m q x within = none m
+  number-only (suc width) m q x within =
+      let first = set m (at + q) (x % 256) in
+      let next : at + suc q ≡ suc (at + q) = omega arith in
+      then m first _ (byte m q (x % 256) (omega arith))
+      (subst (λ p. Only first (withNumber width first p (x / 256))) next (number-only width first (suc q) (x / 256) (omega arith)))
+
 -- byte q of row k
 module _ (m : List ℕ) (k q v : ℕ) (within : q < 8) where
   pub row-byte : rowBytes (set m (rowAt k + q) v) k ≡ set (rowBytes m k) q v
@@ -86,6 +110,16 @@ module _ (m : List ℕ) (i q v : ℕ) (within : q < 64) where
     as-long = length-set m (headAt i + q) v;
   }
 
+-- one change of a head after another, and a number
+pub only-head-none : (i : ℕ) (m : List ℕ) → OnlyHead i m m
+only-head-none i m = record {
+  shipments = refl;
+  other-heads = λ j apart. refl;
+  rows = λ k. refl;
+  behind = λ j far. refl;
+  as-long = refl;
+}
+
 pub only-head-then : (i : ℕ) (l m n : List ℕ) → OnlyHead i l m → OnlyHead i m n → OnlyHead i l n
 only-head-then i l m n first then = record {
   shipments = then .shipments ∙ first .shipments;
@@ -95,34 +129,25 @@ only-head-then i l m n first then = record {
   as-long = then .as-long ∙ first .as-long;
 }
 
--- a number in head i, byte after byte
 pub head-number : (width : ℕ) (m : List ℕ) (i q n : ℕ) → q + width ≤ 64
     → headBytes (withNumber width m (headAt i + q) n) i ≡ withNumber width (headBytes m i) q n
-unfolding withNumber
-head-number zero m i q n within = refl
-head-number (suc width) m i q n within =
-    let next : headAt i + suc q ≡ suc (headAt i + q) = omega arith in
-    let rest = head-number width (set m (headAt i + q) (n % 256)) i (suc q) (n / 256) (omega arith) in
-    ap (λ at. headBytes (withNumber width (set m (headAt i + q) (n % 256)) at (n / 256)) i) (sym next)
-    ∙ rest
-    ∙ ap (λ head. withNumber width head (suc q) (n / 256)) (head-byte m i q (n % 256) (omega arith))
+unfolding headBytes
+head-number width m i q n within = number-inside width m (headAt i) 64 q n within
 
 pub head-number-only : (width : ℕ) (m : List ℕ) (i q n : ℕ) → q + width ≤ 64 → i < 32 → OnlyHead i m (withNumber width m (headAt i + q) n)
-unfolding withNumber
-head-number-only zero m i q n within few = record {
+head-number-only width m i q n within few =
+    number-only (OnlyHead i) (only-head-none i) (only-head-then i) (headAt i) 64 (λ l p v h. head-byte-only l i p v h few) width m q n within
+
+-- one change of a row after another, and a number
+only-row-none : (k : ℕ) (m : List ℕ) → OnlyRow k m m
+only-row-none k m = record {
   shipments = refl;
-  other-heads = λ j apart. refl;
-  rows = λ k. refl;
+  heads = λ i few. refl;
+  other-rows = λ j apart. refl;
   behind = λ j far. refl;
   as-long = refl;
 }
-head-number-only (suc width) m i q n within few =
-    let first = set m (headAt i + q) (n % 256) in
-    let next : headAt i + suc q ≡ suc (headAt i + q) = omega arith in
-    only-head-then i m first _ (head-byte-only m i q (n % 256) (omega arith) few)
-    (subst (λ at. OnlyHead i first (withNumber width first at (n / 256))) next (head-number-only width first i (suc q) (n / 256) (omega arith) few))
 
--- one change of a row after another
 pub only-row-then : (k : ℕ) (l m n : List ℕ) → OnlyRow k l m → OnlyRow k m n → OnlyRow k l n
 only-row-then k l m n first then = record {
   shipments = then .shipments ∙ first .shipments;
@@ -131,3 +156,22 @@ only-row-then k l m n first then = record {
   behind = λ j far. then .behind j far ∙ first .behind j far;
   as-long = then .as-long ∙ first .as-long;
 }
+
+pub row-number : (width : ℕ) (m : List ℕ) (k q n : ℕ) → q + width ≤ 8
+    → rowBytes (withNumber width m (rowAt k + q) n) k ≡ withNumber width (rowBytes m k) q n
+unfolding rowBytes
+row-number width m k q n within = number-inside width m (rowAt k) 8 q n within
+
+pub row-number-only : (width : ℕ) (m : List ℕ) (k q n : ℕ) → q + width ≤ 8 → k < 2_048 → OnlyRow k m (withNumber width m (rowAt k + q) n)
+row-number-only width m k q n within there =
+    number-only (OnlyRow k) (only-row-none k) (only-row-then k) (rowAt k) 8 (λ l p v h. row-byte-only l k p v h there) width m q n within
+
+-- the number of shipments
+module _ (m : List ℕ) (v : ℕ) where
+  pub number-heads : (i : ℕ) → headBytes (set m 0 v) i ≡ headBytes m i
+  unfolding headBytes
+  number-heads i = outside m (headAt i) 64 0 v (inl (omega arith))
+
+  pub number-rows : (k : ℕ) → rowBytes (set m 0 v) k ≡ rowBytes m k
+  unfolding rowBytes
+  number-rows k = outside m (rowAt k) 8 0 v (inl (omega arith))

@@ -1,36 +1,95 @@
--- A state is read back from its bytes, and stored in a row changes that row's state alone.
+-- A state is read back from its byte, and stored in a row changes that row's state alone; a return changes a row by its byte.
 -- Assumes nothing.
-use mathlib.Core.Path.{_≡_, refl, ap, _∙_}
-use mathlib.Core.Bool.{true, false, _&&_}
-use mathlib.Core.List.{List}
-use Prim.Native.Nat.{ℕ, _+_, _%_, _<_, _≤_}
-use native.Mathlib.Nat.{mod-eq-of-lt}
+use mathlib.Core.Path.{_≡_, refl, sym, ap, _∙_}
+use mathlib.Core.Bool.{Bool, true, false, cond, _&&_, _||_}
+use mathlib.Core.List.{List, [], _∷_}
+use Prim.Native.Nat.{ℕ, zero, suc, _+_, _-_, _/_, _%_, _<_, _≤_}
+use native.Mathlib.Numerals.{add-one}
 use native.Mathlib.Omega.{arith}
-use borrow.Author.Tests.{leb-true}
-use lib.Dec.{leb}
-use lib.ListN.{length, getD, set, length-set}
+use borrow.Author.Tests.{eqb-true, leb-true, ne-eqb}
+use lib.Dec.{eqb, leb}
+use lib.ListN.{length, getD, set}
 use lib.Seq.{getD-set-same, getD-set-other}
-use Rattle.text.proofs.Branches.{and-right}
-use Rattle.model.specs.Calls.{withState}
+use Rattle.text.specs.Bytes.{same}
+use Rattle.text.proofs.Branches.{and-left, and-right}
+use Rattle.text.proofs.Same.{same-equal}
+use Rattle.calendar.proofs.Computed.{below, each}
+use Rattle.money.specs.declared.Money.{Money}
+use Rattle.money.specs.declared.Money.the-variants.{K, O}
+use Rattle.model.specs.Shipment.{of, when}
+use Rattle.model.specs.Calls.{withState, waitsOn, cleared, afterReturn}
+use Rattle.model.specs.declared.Route.{Route}
+use Rattle.model.specs.declared.Route.the-variants.{Zwr, Opr, Zpr, Zzr}
+use Rattle.model.specs.declared.Row.{Row}
 use Rattle.model.specs.declared.State.{State}
 use Rattle.model.specs.declared.State.the-variants.{Open, Posted, Paid, Faulty, Undelivered, Withdrawn}
 use Rattle.memory.specs.Number.{numberAt}
 use Rattle.memory.specs.Layout.{size, rowAt, rowBytes}
-use Rattle.memory.specs.Rows.{stateOf, rowOf, tagOf, faultOf, waitsOf, withStateAt, StateIsReadBack, StateStored}
-use Rattle.memory.proofs.Parts.{part-long, row-byte, row-byte-only, only-row-then}
+use Rattle.memory.specs.Rows.{kWaits, oWaits, stateOf, rowOf, codeOf, withCodeAt, StateIsReadBack, CodeStored}
+use Rattle.memory.specs.Rows.{waitsIn, stateAfter, routeHas, codeWaits, codeAfter, RowReturned, classOf, listed, classTable}
+use Rattle.memory.proofs.Parts.{part-long, row-byte, row-byte-only}
 
-fits-a-byte : (fault : ℕ) → (leb 1 fault && leb fault 10) ≡ true → fault % 256 ≡ fault
-fits-a-byte fault h = mod-eq-of-lt (omega (arith, leb-true fault 10 (and-right (leb 1 fault) (leb fault 10) h)))
+-- a state in numbers and back, so that two states can be compared by computation
+abbrev parts : State → List ℕ
+parts Open = 0 ∷ []
+parts Posted = 1 ∷ []
+parts Paid = 2 ∷ []
+parts (Faulty fault k o) = 3 ∷ fault ∷ when k 1 ∷ when o 1 ∷ []
+parts (Undelivered k) = 4 ∷ when k 1 ∷ []
+parts (Withdrawn k o) = 5 ∷ when k 1 ∷ when o 1 ∷ []
+
+abbrev whole : List ℕ → State
+whole [] = Open
+whole (tag ∷ l) =
+    cond (eqb tag 0) Open
+    (cond (eqb tag 1) Posted
+    (cond (eqb tag 2) Paid
+    (cond (eqb tag 3) (Faulty (getD l 0 0) (eqb (getD l 1 0) 1) (eqb (getD l 2 0) 1))
+    (cond (eqb tag 4) (Undelivered (eqb (getD l 0 0) 1)) (Withdrawn (eqb (getD l 0 0) 1) (eqb (getD l 1 0) 1))))))
+
+whole-parts : (state : State) → whole (parts state) ≡ state
+whole-parts Open = refl
+whole-parts Posted = refl
+whole-parts Paid = refl
+whole-parts (Faulty fault true true) = refl
+whole-parts (Faulty fault true false) = refl
+whole-parts (Faulty fault false true) = refl
+whole-parts (Faulty fault false false) = refl
+whole-parts (Undelivered true) = refl
+whole-parts (Undelivered false) = refl
+whole-parts (Withdrawn true true) = refl
+whole-parts (Withdrawn true false) = refl
+whole-parts (Withdrawn false true) = refl
+whole-parts (Withdrawn false false) = refl
+
+abbrev alike : State → State → Bool
+alike a b = same (parts a) (parts b)
+
+alike-equal : (a b : State) → alike a b ≡ true → a ≡ b
+alike-equal a b h = sym (whole-parts a) ∙ ap whole (same-equal (parts a) (parts b) h) ∙ whole-parts b
+
+-- a Faulty state, at each fault from 1 to 10
+read-back : Bool → Bool → ℕ → Bool
+read-back k o fault = eqb fault 0 || alike (stateOf (codeOf (Faulty fault k o))) (Faulty fault k o)
+
+faulty-back : (k o : Bool) (fault : ℕ) → (leb 1 fault && leb fault 10) ≡ true → below (read-back k o) 11 ≡ true
+    → stateOf (codeOf (Faulty fault k o)) ≡ Faulty fault k o
+unfolding read-back
+faulty-back k o fault h computed =
+    let low = leb-true 1 fault (and-left (leb 1 fault) (leb fault 10) h) in
+    let high = leb-true fault 10 (and-right (leb 1 fault) (leb fault 10) h) in
+    let here : read-back k o fault ≡ true = each (read-back k o) 11 computed fault (omega arith) in
+    alike-equal _ _ (rw (ne-eqb fault 0 (omega arith)) at here)
 
 pub state-is-read-back : StateIsReadBack
-unfolding stateOf
+unfolding stateOf read-back same
 state-is-read-back Open h = refl
 state-is-read-back Posted h = refl
 state-is-read-back Paid h = refl
-state-is-read-back (Faulty fault true true) h = ap (λ f. Faulty f true true) (fits-a-byte fault h)
-state-is-read-back (Faulty fault true false) h = ap (λ f. Faulty f true false) (fits-a-byte fault h)
-state-is-read-back (Faulty fault false true) h = ap (λ f. Faulty f false true) (fits-a-byte fault h)
-state-is-read-back (Faulty fault false false) h = ap (λ f. Faulty f false false) (fits-a-byte fault h)
+state-is-read-back (Faulty fault true true) h = faulty-back true true fault h refl
+state-is-read-back (Faulty fault true false) h = faulty-back true false fault h refl
+state-is-read-back (Faulty fault false true) h = faulty-back false true fault h refl
+state-is-read-back (Faulty fault false false) h = faulty-back false false fault h refl
 state-is-read-back (Undelivered true) h = refl
 state-is-read-back (Undelivered false) h = refl
 state-is-read-back (Withdrawn true true) h = refl
@@ -38,74 +97,145 @@ state-is-read-back (Withdrawn true false) h = refl
 state-is-read-back (Withdrawn false true) h = refl
 state-is-read-back (Withdrawn false false) h = refl
 
--- three bytes of a row of its own
-abbrev changed : List ℕ → ℕ → ℕ → ℕ → List ℕ
-changed row tag fault waits = set (set (set row 4 tag) 5 fault) 6 waits
+-- byte 4 of a row of its own
+module _ (row : List ℕ) (eight : length row ≡ 8) (code : ℕ) where
+  untouched : (j : ℕ) → j < 4 → getD (set row 4 code) j 0 ≡ getD row j 0
+  untouched j h = getD-set-other row 4 j code 0 (omega arith)
 
-module _ (row : List ℕ) (eight : length row ≡ 8) (tag fault waits : ℕ) where
-  abbrev tagged : List ℕ
-  tagged = set row 4 tag
-
-  abbrev faulted : List ℕ
-  faulted = set tagged 5 fault
-
-  abbrev after : List ℕ
-  after = changed row tag fault waits
-
-  as-long : length faulted ≡ 8
-  as-long = length-set tagged 5 fault ∙ length-set row 4 tag ∙ eight
-
-  tag-there : getD after 4 0 ≡ tag
-  tag-there = getD-set-other faulted 6 4 waits 0 (omega arith) ∙ getD-set-other tagged 5 4 fault 0 (omega arith) ∙ getD-set-same row 4 tag 0 (omega arith)
-
-  fault-there : getD after 5 0 ≡ fault
-  fault-there = getD-set-other faulted 6 5 waits 0 (omega arith) ∙ getD-set-same tagged 5 fault 0 (omega (arith, length-set row 4 tag))
-
-  waits-there : getD after 6 0 ≡ waits
-  waits-there = getD-set-same faulted 6 waits 0 (omega (arith, as-long))
-
-  untouched : (j : ℕ) → j < 4 → getD after j 0 ≡ getD row j 0
-  untouched j h =
-      getD-set-other faulted 6 j waits 0 (omega arith) ∙ getD-set-other tagged 5 j fault 0 (omega arith) ∙ getD-set-other row 4 j tag 0 (omega arith)
-
-  amount-there : numberAt 4 after 0 ≡ numberAt 4 row 0
+  amount-there : numberAt 4 (set row 4 code) 0 ≡ numberAt 4 row 0
   unfolding numberAt
-  amount-there =
-      omega (arith, untouched 0 (omega arith), untouched 1 (omega arith), untouched 2 (omega arith), untouched 3 (omega arith))
+  amount-there = omega (arith, untouched 0 (omega arith), untouched 1 (omega arith), untouched 2 (omega arith), untouched 3 (omega arith))
 
-  row-there : rowOf after ≡ withState (stateOf tag fault waits) (rowOf row)
+  row-there : rowOf (set row 4 code) ≡ withState (stateOf code) (rowOf row)
   unfolding rowOf
-  row-there = λ i. record { amount = record { 0 = amount-there i }; state = stateOf (tag-there i) (fault-there i) (waits-there i) }
+  row-there = λ i. record { amount = record { 0 = amount-there i }; state = stateOf (getD-set-same row 4 code 0 (omega arith) i) }
 
 -- and of row k
-module _ (m : List ℕ) (k : ℕ) (state : State) where
-  abbrev first : List ℕ
-  first = set m (rowAt k + 4) (tagOf state)
-
-  abbrev second : List ℕ
-  second = set first (rowAt k + 5) (faultOf state)
-
-  three-bytes : rowBytes (withStateAt m k state) k ≡ changed (rowBytes m k) (tagOf state) (faultOf state) (waitsOf state)
-  unfolding withStateAt
-  three-bytes =
-      row-byte second k 6 (waitsOf state) (omega arith)
-      ∙ ap (λ row. set row 6 (waitsOf state)) (row-byte first k 5 (faultOf state) (omega arith)
-      ∙ ap (λ row. set row 5 (faultOf state)) (row-byte m k 4 (tagOf state) (omega arith)))
-
+module _ (m : List ℕ) (k code : ℕ) where
   eight-bytes : k < 2_048 → size ≤ length m → length (rowBytes m k) ≡ 8
   unfolding rowBytes
   eight-bytes there enough = part-long m (rowAt k) 8 (omega arith)
 
-  pub state-stored : StateStored m k state
-  unfolding withStateAt
-  state-stored = record {
-    row = λ there enough fault.
-        ap rowOf three-bytes
-        ∙ row-there (rowBytes m k) (eight-bytes there enough) (tagOf state) (faultOf state) (waitsOf state)
-        ∙ ap (λ s. withState s (rowOf (rowBytes m k))) (state-is-read-back state fault);
-    only = λ there.
-        only-row-then k m second _
-        (only-row-then k m first second (row-byte-only m k 4 (tagOf state) (omega arith) there)
-        (row-byte-only first k 5 (faultOf state) (omega arith) there))
-        (row-byte-only second k 6 (waitsOf state) (omega arith) there);
+  pub code-stored : CodeStored m k code
+  unfolding withCodeAt
+  code-stored = record {
+    row = λ there enough. ap rowOf (row-byte m k 4 code (omega arith)) ∙ row-there (rowBytes m k) (eight-bytes there enough) code;
+    only = λ there. row-byte-only m k 4 code (omega arith) there;
   }
+
+-- a return, at each byte
+agree : Bool → Bool → Bool
+agree true t = t
+agree false true = false
+agree false false = true
+
+agree-equal : (t u : Bool) → agree t u ≡ true → t ≡ u
+unfolding agree
+agree-equal true u h = sym h
+agree-equal false true h = h
+agree-equal false false h = refl
+
+returned-right : Route → Money → ℕ → Bool
+returned-right route money code =
+    agree (codeWaits route money code) (waitsIn route money (stateOf code))
+    && alike (stateOf (codeAfter route money code)) (stateAfter route money (stateOf code))
+
+returned-each : (route : Route) (money : Money) → below (returned-right route money) 256 ≡ true
+unfolding returned-right agree stateOf same
+returned-each Zwr K = refl
+returned-each Zwr O = refl
+returned-each Opr K = refl
+returned-each Opr O = refl
+returned-each Zpr K = refl
+returned-each Zpr O = refl
+returned-each Zzr K = refl
+returned-each Zzr O = refl
+
+module _ (route : Route) (money : Money) (code : ℕ) (byte : code < 256) where
+  abbrev waiting : Bool
+  waiting = agree (codeWaits route money code) (waitsIn route money (stateOf code))
+
+  abbrev after : Bool
+  after = alike (stateOf (codeAfter route money code)) (stateAfter route money (stateOf code))
+
+  right : (waiting && after) ≡ true
+  unfolding returned-right
+  right = each (returned-right route money) 256 (returned-each route money) code byte
+
+  pub waits-by-code : codeWaits route money code ≡ waitsIn route money (stateOf code)
+  waits-by-code = agree-equal _ _ (and-left waiting after right)
+
+  pub after-by-code : stateOf (codeAfter route money code) ≡ stateAfter route money (stateOf code)
+  after-by-code = alike-equal _ _ (and-right waiting after right)
+
+returned-row : (route : Route) (money : Money) (row : Row) → withState (stateAfter route money (row .state)) row ≡ afterReturn route money row
+returned-row route money row = by (waitsOn route money row)
+  where
+    by : (t : Bool) → withState (cond t (cleared money (row .state)) (row .state)) row ≡ cond t (withState (cleared money (row .state)) row) row
+    by true = refl
+    by false = refl
+
+pub row-returned : (route : Route) (money : Money) (m : List ℕ) (k code : ℕ) → k < 2_048 → size ≤ length m
+    → stateOf code ≡ stateAfter route money (stateOf (getD (rowBytes m k) 4 0)) → RowReturned route money k m (withCodeAt m k code)
+unfolding rowOf
+row-returned route money m k code there enough state =
+    let row = rowOf (rowBytes m k) in
+    record {
+      row = code-stored m k code .row there enough ∙ ap (λ x. withState x row) state ∙ returned-row route money row;
+      only = code-stored m k code .only there;
+    }
+
+-- as code asks, and as it takes a wait away
+module _ (route : Route) (money : Money) (code : ℕ) where
+  pub waits-told : (r : Bool) → code < 256 → r ≡ codeWaits route money code → (r ≡ codeWaits route money code) × (r ≡ waitsIn route money (stateOf code))
+  waits-told r byte told = (told, told ∙ waits-by-code route money code byte)
+
+  pub wait-within : (r : Bool) (wait : ℕ) → r ≡ codeWaits route money code → r ≡ true → wait ≡ of money 1 2 → wait ≤ code
+  wait-within r wait told held size-is = omega (arith, size-is, by money (sym told ∙ held))
+    where
+      by : (money : Money) → codeWaits route money code ≡ true → of money 1 2 ≤ code
+      by K h = omega (arith, eqb-true (code % 2) 1 (and-right (routeHas route code) (kWaits code) h))
+      by O h = omega (arith, eqb-true (code / 2 % 2) 1 (and-right (routeHas route code) (oWaits code) h))
+
+  pub wait-taken : (r : Bool) (wait : ℕ) → code < 256 → r ≡ codeWaits route money code → r ≡ true → wait ≡ of money 1 2
+      → stateOf (code - wait) ≡ stateAfter route money (stateOf code)
+  wait-taken r wait byte told held size-is =
+      ap (λ n. stateOf (code - n)) (size-is ∙ ap (λ t. when t (of money 1 2)) (sym held ∙ told)) ∙ after-by-code route money code byte
+
+  pub none-taken : (r : Bool) → code < 256 → r ≡ codeWaits route money code → r ≡ false → stateOf code ≡ stateAfter route money (stateOf code)
+  none-taken r byte told unheld =
+      ap stateOf (zero-taken code) ∙ ap (λ t. stateOf (code - when t (of money 1 2))) (sym unheld ∙ told) ∙ after-by-code route money code byte
+    where
+      zero-taken : (n : ℕ) → n ≡ n - 0
+      zero-taken n = omega arith
+
+-- the table of classes, at each byte
+listed-from : (f : ℕ → ℕ) (from n k : ℕ) → k < n → getD (listed f from n) k 0 ≡ f (from + k)
+listed-from f from zero k h = absurd (omega arith)
+listed-from f from (suc n) zero h = ap f (omega arith)
+listed-from f from (suc n) (suc k) h = listed-from f (suc from) n k (omega arith) ∙ ap f (omega arith)
+
+listed-there : (f : ℕ → ℕ) (n k : ℕ) → k < n → getD (listed f 0 n) k 0 ≡ f k
+listed-there f n k h = listed-from f 0 n k h ∙ ap f (omega arith)
+
+module _ (table : List ℕ) (table-is : table ≡ classTable) where
+  pub table-long : length table ≡ 256
+  unfolding classTable
+  table-long = ap length table-is
+
+  pub class-there : (code : ℕ) → code < 256 → getD table code 0 ≡ classOf (stateOf code)
+  unfolding classTable
+  class-there code byte = ap (λ t. getD t code 0) table-is ∙ listed-there (λ c. classOf (stateOf c)) 256 code byte
+
+-- as code makes it: the first 52 entries are copied
+abbrev pub copied : List ℕ → ℕ → ℕ → List ℕ → List ℕ
+copied classes code zero table = table
+copied classes code (suc n) table = copied classes (suc code) n (set table code (getD classes code 0))
+
+module _ (classes table : List ℕ) (code : ℕ) where
+  pub copied-on : code < 52
+      → copied classes (code + 1) (52 - (code + 1)) (set table code (getD classes code 0)) ≡ copied classes code (52 - code) table
+  copied-on more = let left : 52 - code ≡ suc (52 - (code + 1)) = omega arith in rw (left, add-one)
+
+  pub copied-all : 52 ≤ code → table ≡ copied classes code (52 - code) table
+  copied-all done = let left : 52 - code ≡ 0 = omega arith in rw left

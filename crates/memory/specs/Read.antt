@@ -6,6 +6,7 @@ use mathlib.Core.Option.{Option, some, none}
 use Prim.Native.Nat.{ℕ, zero, suc, _+_, _≤_}
 use lib.Dec.{leb}
 use lib.ListN.{length, getD, set}
+use Rattle.model.specs.Shipment.{Shipment}
 use Rattle.model.specs.Book.{Book}
 use Rattle.model.specs.Sound.{sound}
 use Rattle.model.specs.declared.Row.{Row}
@@ -19,14 +20,16 @@ unfoldable pub rowsFrom : List ℕ → ℕ → ℕ → List Row
 rowsFrom m k zero = []
 rowsFrom m k (suc n) = rowOf (rowBytes m k) ∷ rowsFrom m (suc k) n
 
--- The n shipments from the i-th on, their rows from the k-th on: "the orders' parts follow one another".
+-- The i-th shipment, its rows from the k-th on, and n of them: "the orders' parts follow one another".
 abbrev pub ordersAt : List ℕ → ℕ → ℕ
 ordersAt m i = numberAt 2 (headBytes m i) 30
 
+abbrev pub shipmentAt : List ℕ → ℕ → ℕ → Shipment
+shipmentAt m i k = shipmentIn (headBytes m i) (rowsFrom m k (ordersAt m i))
+
 unfoldable pub shipmentsFrom : List ℕ → ℕ → ℕ → ℕ → Book
 shipmentsFrom m i k zero = []
-shipmentsFrom m i k (suc n) =
-    shipmentIn (headBytes m i) (rowsFrom m k (ordersAt m i)) ∷ shipmentsFrom m (suc i) (k + ordersAt m i) n
+shipmentsFrom m i k (suc n) = shipmentAt m i k ∷ shipmentsFrom m (suc i) (k + ordersAt m i) n
 
 unfoldable pub flagsFrom : List ℕ → ℕ → ℕ → Bool
 flagsFrom m i zero = true

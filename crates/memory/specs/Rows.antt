@@ -1,85 +1,109 @@
--- An order's row in memory: its amount in bytes 0 to 3, its state in 4, its fault in 5, its waits in 6. Byte 7 is free.
+-- An order's row in memory: its amount in bytes 0 to 3, its state in byte 4. Bytes 5 to 7 are free.
 use mathlib.Core.Path.{_≡_}
-use mathlib.Core.List.{List}
-use mathlib.Core.Bool.{Bool, true, false, cond}
-use Prim.Native.Nat.{ℕ, _+_, _/_, _%_, _≤_, _<_}
-use lib.Dec.{eqb, leb}
+use mathlib.Core.List.{List, [], _∷_}
+use mathlib.Core.Bool.{Bool, true, false, not, cond, _&&_}
+use Prim.Native.Nat.{ℕ, zero, suc, _+_, _*_, _-_, _/_, _%_, _≤_, _<_}
+use lib.Dec.{eqb}
 use lib.ListN.{length, getD, set}
+use Rattle.text.specs.Bytes.{between}
+use Rattle.money.specs.declared.Money.{Money}
 use Rattle.memory.specs.Number.{numberAt}
 use Rattle.memory.specs.Layout.{size, rowAt, rowBytes, OnlyRow}
-use Rattle.model.specs.Calls.{withState}
-use Rattle.model.specs.Sound.{faultInRange}
+use Rattle.model.specs.Shipment.{of, when, isFaulty, waits}
+use Rattle.model.specs.Calls.{withState, takes, cleared, afterReturn}
+use Rattle.model.specs.Sound.{faultInRange, beforePairing}
+use Rattle.model.specs.declared.Route.{Route}
+use Rattle.model.specs.declared.Route.the-variants.{Zwr, Opr, Zpr, Zzr}
 use Rattle.model.specs.declared.Row.{Row}
 use Rattle.model.specs.declared.State.{State}
 use Rattle.model.specs.declared.State.the-variants.{Open, Posted, Paid, Faulty, Undelivered, Withdrawn}
 
--- The waits: 1 where K waits, and 2 more where O waits.
+-- The waits, where a state has any: 1 where K waits, and 2 more where O waits, above a multiple of 4.
 abbrev pub kWaits : ℕ → Bool
-kWaits waits = eqb (waits % 2) 1
+kWaits code = eqb (code % 2) 1
 
 abbrev pub oWaits : ℕ → Bool
-oWaits waits = eqb (waits / 2) 1
+oWaits code = eqb (code / 2 % 2) 1
 
 -- What is no state: an order with fault 0, which no sound book has.
 abbrev pub noState : State
 noState = Faulty 0 false false
 
-abbrev pub upTo : ℕ → ℕ → State → State
-upTo waits most state = cond (leb waits most) state noState
-
--- Open, Posted and Paid use neither the fault nor the waits, so those bytes are free there; O never waits in an Undelivered order.
-unfoldable pub stateOf : ℕ → ℕ → ℕ → State
-stateOf tag fault waits =
-    cond (eqb tag 0) Open
-    (cond (eqb tag 1) Posted
-    (cond (eqb tag 2) Paid
-    (cond (eqb tag 3) (upTo waits 3 (Faulty fault (kWaits waits) (oWaits waits)))
-    (cond (eqb tag 4) (upTo waits 1 (Undelivered (kWaits waits)))
-    (cond (eqb tag 5) (upTo waits 3 (Withdrawn (kWaits waits) (oWaits waits))) noState)))))
+-- 0 Open, 1 Posted, 2 Paid, 4 Undelivered, 8 Withdrawn, 8 and four times the fault Faulty, each with its waits.
+unfoldable pub stateOf : ℕ → State
+stateOf code =
+    cond (eqb code 0) Open
+    (cond (eqb code 1) Posted
+    (cond (eqb code 2) Paid
+    (cond (between 4 5 code) (Undelivered (kWaits code))
+    (cond (between 8 11 code) (Withdrawn (kWaits code) (oWaits code))
+    (cond (between 12 51 code) (Faulty (code / 4 - 2) (kWaits code) (oWaits code)) noState)))))
 
 unfoldable pub rowOf : List ℕ → Row
-rowOf row = record { amount = record { 0 = numberAt 4 row 0 }; state = stateOf (getD row 4 0) (getD row 5 0) (getD row 6 0) }
+rowOf row = record { amount = record { 0 = numberAt 4 row 0 }; state = stateOf (getD row 4 0) }
 
--- The bytes of a state.
-abbrev pub waitsByte : Bool → Bool → ℕ
-waitsByte true true = 3
-waitsByte true false = 1
-waitsByte false true = 2
-waitsByte false false = 0
+-- The byte of a state. A fault is 1 to 10, so that the remainder is the fault.
+abbrev pub waitsCode : Bool → Bool → ℕ
+waitsCode true true = 3
+waitsCode true false = 1
+waitsCode false true = 2
+waitsCode false false = 0
 
-abbrev pub tagOf : State → ℕ
-tagOf Open = 0
-tagOf Posted = 1
-tagOf Paid = 2
-tagOf (Faulty fault k o) = 3
-tagOf (Undelivered k) = 4
-tagOf (Withdrawn k o) = 5
+abbrev pub codeOf : State → ℕ
+codeOf Open = 0
+codeOf Posted = 1
+codeOf Paid = 2
+codeOf (Undelivered k) = 4 + waitsCode k false
+codeOf (Withdrawn k o) = 8 + waitsCode k o
+codeOf (Faulty fault k o) = 8 + 4 * (fault % 32) + waitsCode k o
 
-abbrev pub faultOf : State → ℕ
-faultOf Open = 0
-faultOf Posted = 0
-faultOf Paid = 0
-faultOf (Faulty fault k o) = fault % 256
-faultOf (Undelivered k) = 0
-faultOf (Withdrawn k o) = 0
+-- The memory with another byte of state in row k.
+unfoldable pub withCodeAt : List ℕ → ℕ → ℕ → List ℕ
+withCodeAt m k code = set m (rowAt k + 4) code
 
-abbrev pub waitsOf : State → ℕ
-waitsOf Open = 0
-waitsOf Posted = 0
-waitsOf Paid = 0
-waitsOf (Faulty fault k o) = waitsByte k o
-waitsOf (Undelivered k) = waitsByte k false
-waitsOf (Withdrawn k o) = waitsByte k o
-
--- The memory with another state in row k.
-unfoldable pub withStateAt : List ℕ → ℕ → State → List ℕ
-withStateAt m k state = set (set (set m (rowAt k + 4) (tagOf state)) (rowAt k + 5) (faultOf state)) (rowAt k + 6) (waitsOf state)
-
--- Every state that a sound book has is read back from its bytes.
+-- Every state that a sound book has is read back from its byte.
 abbrev pub StateIsReadBack : Type 0
-StateIsReadBack = (state : State) → faultInRange state ≡ true → stateOf (tagOf state) (faultOf state) (waitsOf state) ≡ state
+StateIsReadBack = (state : State) → faultInRange state ≡ true → stateOf (codeOf state) ≡ state
 
--- Row k then has that state and its amount, and nothing else moves.
-pub record StateStored (m : List ℕ) (k : ℕ) (state : State) : Type 0 where
-  pub row : k < 2_048 → size ≤ length m → faultInRange state ≡ true → rowOf (rowBytes (withStateAt m k state) k) ≡ withState state (rowOf (rowBytes m k))
-  pub only : k < 2_048 → OnlyRow k m (withStateAt m k state)
+-- Row k then has the state that the byte says and its amount, and nothing else moves.
+pub record CodeStored (m : List ℕ) (k code : ℕ) : Type 0 where
+  pub row : k < 2_048 → size ≤ length m → rowOf (rowBytes (withCodeAt m k code) k) ≡ withState (stateOf code) (rowOf (rowBytes m k))
+  pub only : k < 2_048 → OnlyRow k m (withCodeAt m k code)
+
+-- A return by a route of what waits of a money, as far as one state goes; and by its byte alone.
+abbrev pub waitsIn : Route → Money → State → Bool
+waitsIn route money state = takes route state && waits money state
+
+abbrev pub stateAfter : Route → Money → State → State
+stateAfter route money state = cond (waitsIn route money state) (cleared money state) state
+
+abbrev pub routeHas : Route → ℕ → Bool
+routeHas Zwr code = false
+routeHas Opr code = between 12 51 code
+routeHas Zpr code = between 4 5 code
+routeHas Zzr code = between 8 11 code
+
+abbrev pub codeWaits : Route → Money → ℕ → Bool
+codeWaits route money code = routeHas route code && of money (kWaits code) (oWaits code)
+
+abbrev pub codeAfter : Route → Money → ℕ → ℕ
+codeAfter route money code = code - when (codeWaits route money code) (of money 1 2)
+
+-- Row k is as a return leaves it, and nothing else moves.
+pub record RowReturned (route : Route) (money : Money) (k : ℕ) (m m′ : List ℕ) : Type 0 where
+  pub row : rowOf (rowBytes m′ k) ≡ afterReturn route money (rowOf (rowBytes m k))
+  pub only : OnlyRow k m m′
+
+-- What soundness asks of a state, as one number to add up over a shipment's rows: 1 where it is Faulty, 4,096 more where only a Paired shipment may
+-- have it, 16,777,216 more where its fault is out of range.
+abbrev pub classOf : State → ℕ
+classOf state = when (isFaulty state) 1 + (when (not (beforePairing state)) 4_096 + when (not (faultInRange state)) 16_777_216)
+
+-- What a function gives at n places from one on, as a table.
+abbrev pub listed : (ℕ → ℕ) → ℕ → ℕ → List ℕ
+listed f from zero = []
+listed f from (suc n) = f from ∷ listed f (suc from) n
+
+-- The class of the state that each byte says, from 0 to 255.
+unfoldable pub classTable : List ℕ
+classTable = listed (λ code. classOf (stateOf code)) 0 256

@@ -8,9 +8,10 @@ use money::Money;
 ghost use mathlib.Core.Path.{_≡_};
 ghost use Prim.Native.Nat.{_+_, _≤_, _<_, _^_};
 ghost use lib.ListN.{length, getD, set};
+ghost use Rattle.model.specs.Shipment.{isWaiting, isPaired};
 ghost use Rattle.memory.specs.Number.{numberAt, withNumber};
 ghost use Rattle.memory.specs.Layout.{size, headAt, headBytes};
-ghost use Rattle.memory.specs.Heads.{stageOf, stageByte, goAheadIn, acceptedAt, returnedAt};
+ghost use Rattle.memory.specs.Heads.{stageOf, stageByte, goAheadIn, flagsInForm, acceptedAt, returnedAt};
 
 pub const HEADS: usize = 64;
 
@@ -24,25 +25,28 @@ pub fn head_bytes(memory: &[u8], i: usize) -> &[u8]
     &memory[at..end]
 }
 
-// The stage that a byte says.
-fn stage_of(byte: u8) -> Stage
-    ensures { λ r. ⌜ r ≡ stageOf byte ⌝ }
+// Is the shipment Waiting?
+pub fn is_waiting(head: &[u8]) -> bool
+    requires { ⌜ length (now head) ≡ 64 ⌝ }
+    ensures { λ r. ⌜ r ≡ isWaiting (stageOf (getD (now (head .entry)) 28 0)) ⌝ }
 {
-    if byte == 0 {
-        return Stage::Waiting;
-    }
-    if byte == 1 {
-        return Stage::Paired;
-    }
-    Stage::Closed
+    head[28] == 0
 }
 
-// Where the shipment stands.
-pub fn stage(head: &[u8]) -> Stage
+// Is the shipment Paired?
+pub fn is_paired(head: &[u8]) -> bool
     requires { ⌜ length (now head) ≡ 64 ⌝ }
-    ensures { λ r. ⌜ r ≡ stageOf (getD (now (head .entry)) 28 0) ⌝ }
+    ensures { λ r. ⌜ r ≡ isPaired (stageOf (getD (now (head .entry)) 28 0)) ⌝ }
 {
-    stage_of(head[28])
+    head[28] == 1
+}
+
+// Are the bytes of stage and go-ahead in form?
+pub fn has_flags_in_form(head: &[u8]) -> bool
+    requires { ⌜ length (now head) ≡ 64 ⌝ }
+    ensures { λ r. ⌜ r ≡ flagsInForm (now (head .entry)) ⌝ }
+{
+    head[28] <= 2 && head[29] <= 1
 }
 
 // Did a go-ahead come?

@@ -1,15 +1,79 @@
 // An order's row: read from its eight bytes, and stored in place.
 use crate::number::read_four;
+use model::Route;
 use model::Row;
 use model::State;
 use money::Amount;
+use money::Money;
+use text::bytes::is_between;
 ghost use mathlib.Core.Path.{_≡_};
-ghost use Prim.Native.Nat.{_≤_, _<_, _^_};
+ghost use Prim.Native.Nat.{_+_, _*_, _-_, _/_, _%_, _≤_, _<_, _^_};
 ghost use lib.ListN.{length};
+ghost use Rattle.model.specs.Shipment.{of};
+ghost use Rattle.model.specs.Calls.{waitsOn};
 ghost use Rattle.memory.specs.Layout.{size, rowBytes};
-ghost use Rattle.memory.specs.Rows.{kWaits, oWaits, upTo, stateOf, rowOf, waitsByte, tagOf, faultOf, waitsOf, withStateAt};
+ghost use Rattle.memory.specs.Rows.{kWaits, oWaits, stateOf, rowOf, waitsCode, waitsIn, stateAfter, codeOf, withCodeAt, routeHas, codeWaits, RowReturned, classOf, classTable};
 
 pub const ROWS: usize = 2_112;
+
+// What soundness asks of the bytes of state from 0 to 51: see `class_of`.
+const CLASSES: [u64; 52] = [
+    0,
+    4_096,
+    4_096,
+    16_781_313,
+    4_096,
+    4_096,
+    16_781_313,
+    16_781_313,
+    4_096,
+    4_096,
+    4_096,
+    4_096,
+    4_097,
+    4_097,
+    4_097,
+    1,
+    4_097,
+    4_097,
+    4_097,
+    1,
+    4_097,
+    4_097,
+    4_097,
+    1,
+    4_097,
+    4_097,
+    4_097,
+    1,
+    4_097,
+    4_097,
+    4_097,
+    1,
+    4_097,
+    4_097,
+    4_097,
+    1,
+    4_097,
+    4_097,
+    4_097,
+    1,
+    4_097,
+    4_097,
+    4_097,
+    1,
+    4_097,
+    4_097,
+    4_097,
+    1,
+    4_097,
+    4_097,
+    4_097,
+    1,
+];
+
+// What it asks of a byte that says no state, as all from 52 on.
+const NO_STATE: u64 = 16_781_313;
 
 // The bytes of row k.
 pub fn row_bytes(memory: &[u8], k: usize) -> &[u8]
@@ -22,102 +86,142 @@ pub fn row_bytes(memory: &[u8], k: usize) -> &[u8]
 }
 
 // Does K wait?
-fn k_waits(waits: u8) -> bool
-    ensures { λ r. ⌜ r ≡ kWaits waits ⌝ }
+fn k_waits(code: u8) -> bool
+    ensures { λ r. ⌜ r ≡ kWaits code ⌝ }
 {
-    waits % 2 == 1
+    code % 2 == 1
 }
 
 // Does O wait?
-fn o_waits(waits: u8) -> bool
-    ensures { λ r. ⌜ r ≡ oWaits waits ⌝ }
+fn o_waits(code: u8) -> bool
+    ensures { λ r. ⌜ r ≡ oWaits code ⌝ }
 {
-    waits / 2 == 1
+    code / 2 % 2 == 1
 }
 
-// A state whose waits are at most so much, else none.
-fn up_to(waits: u8, most: u8, state: State) -> State
-    ensures { λ r. ⌜ r ≡ upTo waits most state ⌝ }
+// The fault of a Faulty order.
+fn fault_of(code: u8) -> u64
+    requires { ⌜ 12 ≤ code ⌝ }
+    ensures { λ r. ⌜ r ≡ code / 4 - 2 ⌝ }
 {
-    if waits <= most {
-        state
-    } else {
-        State::Faulty(0, false, false)
-    }
+    (code / 4 - 2) as u64
 }
 
-// The state that three bytes say.
-pub fn state_of(tag: u8, fault: u8, waits: u8) -> State
-    ensures { λ r. ⌜ r ≡ stateOf tag fault waits ⌝ }
+// The state that a byte says.
+fn state_of(code: u8) -> State
+    ensures { λ r. ⌜ r ≡ stateOf code ⌝ }
 {
-    if tag == 0 {
+    if code == 0 {
         return State::Open;
     }
-    if tag == 1 {
+    if code == 1 {
         return State::Posted;
     }
-    if tag == 2 {
+    if code == 2 {
         return State::Paid;
     }
-    if tag == 3 {
-        return up_to(
-            waits,
-            3,
-            State::Faulty(fault as u64, k_waits(waits), o_waits(waits)),
-        );
+    if is_between(4, 5, code) {
+        return State::Undelivered(k_waits(code));
     }
-    if tag == 4 {
-        return up_to(waits, 1, State::Undelivered(k_waits(waits)));
+    if is_between(8, 11, code) {
+        return State::Withdrawn(k_waits(code), o_waits(code));
     }
-    if tag == 5 {
-        return up_to(waits, 3, State::Withdrawn(k_waits(waits), o_waits(waits)));
+    if is_between(12, 51, code) {
+        return State::Faulty(fault_of(code), k_waits(code), o_waits(code));
     }
     State::Faulty(0, false, false)
+}
+
+// The amount that eight bytes say.
+pub fn amount(row: &[u8]) -> u64
+    requires { ⌜ length (now row) ≡ 8 ⌝ }
+    ensures { λ r. ⌜ (r ≡ rowOf (now (row .entry)) .amount .0) × (r < 2 ^ 32) ⌝ }
+{
+    read_four(row, 0)
 }
 
 // The row that eight bytes say.
 pub fn read_row(row: &[u8]) -> Row
     requires { ⌜ length (now row) ≡ 8 ⌝ }
-    ensures { λ r. ⌜ (r ≡ rowOf (now (row .entry))) × (r .amount .0 < 2 ^ 32) ⌝ }
+    ensures { λ r. ⌜ r ≡ rowOf (now (row .entry)) ⌝ }
 {
-    let amount = Amount(read_four(row, 0));
+    let amount = Amount(amount(row));
     Row {
         amount: amount,
-        state: state_of(row[4], row[5], row[6]),
+        state: state_of(row[4]),
     }
 }
 
-// The byte that says which state.
-fn tag_of(state: State) -> u8
-    ensures { λ r. ⌜ r ≡ tagOf state ⌝ }
+// What soundness asks of each byte of state. It is made once for many rows, and lent.
+pub fn class_table() -> [u64; 256]
+    ensures { λ r. ⌜ r ≡ classTable ⌝ }
 {
-    match state {
-        State::Open => 0,
-        State::Posted => 1,
-        State::Paid => 2,
-        State::Faulty(_, _, _) => 3,
-        State::Undelivered(_) => 4,
-        State::Withdrawn(_, _) => 5,
+    let classes = CLASSES;
+    let mut table = [NO_STATE; 256];
+    let mut code = 0;
+    while code < 52 {
+        table[code] = classes[code];
+        code += 1;
+    }
+    table
+}
+
+// What soundness asks of the state that a byte says.
+fn class_of(code: u8, table: &[u64]) -> u64
+    requires { ⌜ now table ≡ classTable ⌝ }
+    ensures { λ r. ⌜ r ≡ classOf (stateOf code) ⌝ }
+{
+    table[code as usize]
+}
+
+// What soundness asks of a row's state, as one number to add up.
+pub fn class(row: &[u8], table: &[u64]) -> u64
+    requires { ⌜ (length (now row) ≡ 8) × (now table ≡ classTable) ⌝ }
+    ensures { λ r. ⌜ r ≡ classOf (rowOf (now (row .entry)) .state) ⌝ }
+{
+    class_of(row[4], table)
+}
+
+// Does the byte say a state of the orders that a route returns?
+fn route_has(route: Route, code: u8) -> bool
+    ensures { λ r. ⌜ r ≡ routeHas route code ⌝ }
+{
+    match route {
+        Route::Zwr => false,
+        Route::Opr => is_between(12, 51, code),
+        Route::Zpr => is_between(4, 5, code),
+        Route::Zzr => is_between(8, 11, code),
     }
 }
 
-// The byte of the fault.
-fn fault_of(state: State) -> u8
-    ensures { λ r. ⌜ r ≡ faultOf state ⌝ }
+// Does the byte say that a money waits?
+fn money_waits(money: Money, code: u8) -> bool
+    ensures { λ r. ⌜ r ≡ of money (kWaits code) (oWaits code) ⌝ }
 {
-    match state {
-        State::Open => 0,
-        State::Posted => 0,
-        State::Paid => 0,
-        State::Faulty(fault, _, _) => (fault % 256) as u8,
-        State::Undelivered(_) => 0,
-        State::Withdrawn(_, _) => 0,
+    match money {
+        Money::K => k_waits(code),
+        Money::O => o_waits(code),
     }
+}
+
+// Does a money wait on a route, by the byte?
+fn code_waits(route: Route, money: Money, code: u8) -> bool
+    ensures { λ r. ⌜ (r ≡ codeWaits route money code) × (r ≡ waitsIn route money (stateOf code)) ⌝ }
+{
+    route_has(route, code) && money_waits(money, code)
+}
+
+// Does a money of the order wait on a route?
+pub fn waits_on(row: &[u8], route: Route, money: Money) -> bool
+    requires { ⌜ length (now row) ≡ 8 ⌝ }
+    ensures { λ r. ⌜ r ≡ waitsOn route money (rowOf (now (row .entry))) ⌝ }
+{
+    code_waits(route, money, row[4])
 }
 
 // The byte of two waits.
-fn waits_byte(k: bool, o: bool) -> u8
-    ensures { λ r. ⌜ r ≡ waitsByte k o ⌝ }
+fn waits_code(k: bool, o: bool) -> u8
+    ensures { λ r. ⌜ (r ≡ waitsCode k o) × (r ≤ 3) ⌝ }
 {
     if k {
         if o { 3 } else { 1 }
@@ -126,27 +230,71 @@ fn waits_byte(k: bool, o: bool) -> u8
     }
 }
 
-// The byte of what waits.
-fn waits_of(state: State) -> u8
-    ensures { λ r. ⌜ r ≡ waitsOf state ⌝ }
+// The byte that says a fault, with no waits.
+fn faulty_code(fault: u64) -> u8
+    ensures { λ r. ⌜ (r ≡ 8 + 4 * (fault % 32)) × (r ≤ 132) ⌝ }
+{
+    8 + 4 * (fault % 32) as u8
+}
+
+// The byte that says a state.
+fn code_of(state: State) -> u8
+    ensures { λ r. ⌜ r ≡ codeOf state ⌝ }
 {
     match state {
         State::Open => 0,
-        State::Posted => 0,
-        State::Paid => 0,
-        State::Faulty(_, k, o) => waits_byte(k, o),
-        State::Undelivered(k) => waits_byte(k, false),
-        State::Withdrawn(k, o) => waits_byte(k, o),
+        State::Posted => 1,
+        State::Paid => 2,
+        State::Faulty(fault, k, o) => faulty_code(fault) + waits_code(k, o),
+        State::Undelivered(k) => 4 + waits_code(k, false),
+        State::Withdrawn(k, o) => 8 + waits_code(k, o),
     }
+}
+
+// Stores a byte of state in row k.
+fn store_code(memory: &mut [u8], k: usize, code: u8)
+    requires { ⌜ (k < 2_048) × (size ≤ length (now memory)) ⌝ }
+    ensures { λ _. ⌜ now (memory .exit) ≡ withCodeAt (now (memory .entry)) k code ⌝ }
+{
+    let at = ROWS + 8 * k;
+    memory[at + 4] = code;
 }
 
 // Stores a state in row k.
 pub fn store_state(memory: &mut [u8], k: usize, state: State)
     requires { ⌜ (k < 2_048) × (size ≤ length (now memory)) ⌝ }
-    ensures { λ _. ⌜ now (memory .exit) ≡ withStateAt (now (memory .entry)) k state ⌝ }
+    ensures { λ _. ⌜ now (memory .exit) ≡ withCodeAt (now (memory .entry)) k (codeOf state) ⌝ }
 {
-    let at = ROWS + 8 * k;
-    memory[at + 4] = tag_of(state);
-    memory[at + 5] = fault_of(state);
-    memory[at + 6] = waits_of(state);
+    let code = code_of(state);
+    store_code(memory, k, code);
+}
+
+// What the wait of a money adds to a byte of state.
+fn wait_of(money: Money) -> u8
+    ensures { λ r. ⌜ r ≡ of money 1 2 ⌝ }
+{
+    match money {
+        Money::K => 1,
+        Money::O => 2,
+    }
+}
+
+// The byte of a state whose money waits on a route no more.
+fn code_after(route: Route, money: Money, code: u8) -> u8
+    ensures { λ r. ⌜ stateOf r ≡ stateAfter route money (stateOf code) ⌝ }
+{
+    if code_waits(route, money, code) {
+        return code - wait_of(money);
+    }
+    code
+}
+
+// Stores in row k that a money waits on a route no more.
+pub fn store_return(memory: &mut [u8], k: usize, route: Route, money: Money)
+    requires { ⌜ (k < 2_048) × (size ≤ length (now memory)) ⌝ }
+    ensures { λ _. ⌜ RowReturned route money k (now (memory .entry)) (now (memory .exit)) ⌝ }
+{
+    let code = row_bytes(memory, k)[4];
+    let after = code_after(route, money, code);
+    store_code(memory, k, after);
 }

@@ -1,6 +1,8 @@
 -- `memory::row::state_of` asks for each state in turn.
+use mathlib.Core.Path.{sym, _∙_}
+use borrow.Author.Tests.{leb-true}
+use Rattle.text.proofs.Branches.{branches, and-left}
 use Rattle.memory.specs.Rows.{stateOf}
-use Rattle.text.proofs.Branches.{branches}
 use borrow.Author.Needs.{needs}
 use Rattle.memory.proofs.row.state_of.Statement.{statement}
 use Rattle.memory.proofs.row.state_of.Tie as tie
@@ -17,28 +19,34 @@ returns-3 : tie.Need-returns-3
 unfolding stateOf
 returns-3 c = search branches depth 16
 
+is-between-requires : tie.Need-is-between-requires
+is-between-requires c κs = search needs
+
 k-waits-requires : tie.Need-k-waits-requires
 k-waits-requires c κs = search needs
 
-o-waits-requires : tie.Need-o-waits-requires
-o-waits-requires c κs = search needs
-
-up-to-requires : tie.Need-up-to-requires
-up-to-requires c κs = search needs
-
 returns-4 : tie.Need-returns-4
 unfolding stateOf
-returns-4 c = rw (← c .before .before .k-waits .ensures, ← c .before .o-waits .ensures) (search branches depth 16)
+returns-4 c = rw (← c .k-waits .ensures) (search branches depth 16)
+
+is-between-requires-2 : tie.Need-is-between-requires-2
+is-between-requires-2 c κs = search needs
 
 k-waits-requires-2 : tie.Need-k-waits-requires-2
 k-waits-requires-2 c κs = search needs
 
-up-to-requires-2 : tie.Need-up-to-requires-2
-up-to-requires-2 c κs = search needs
+o-waits-requires : tie.Need-o-waits-requires
+o-waits-requires c κs = search needs
 
 returns-5 : tie.Need-returns-5
 unfolding stateOf
-returns-5 c = rw (← c .before .k-waits2 .ensures) (search branches depth 16)
+returns-5 c = rw (← c .before .k-waits2 .ensures, ← c .o-waits .ensures) (search branches depth 16)
+
+is-between-requires-3 : tie.Need-is-between-requires-3
+is-between-requires-3 c κs = search needs
+
+fault-of-requires : tie.Need-fault-of-requires
+fault-of-requires c κs = let test = c .before in leb-true 12 (test .before .before .before .before .before .before .before .before .args .code) (and-left _ _ (sym (test .is-between3 .ensures) ∙ c .if6 .taken))
 
 k-waits-requires-3 : tie.Need-k-waits-requires-3
 k-waits-requires-3 c κs = search needs
@@ -46,12 +54,9 @@ k-waits-requires-3 c κs = search needs
 o-waits-requires-2 : tie.Need-o-waits-requires-2
 o-waits-requires-2 c κs = search needs
 
-up-to-requires-3 : tie.Need-up-to-requires-3
-up-to-requires-3 c κs = search needs
-
 returns-6 : tie.Need-returns-6
 unfolding stateOf
-returns-6 c = rw (← c .before .before .k-waits3 .ensures, ← c .before .o-waits2 .ensures) (search branches depth 16)
+returns-6 c = rw (← c .before .before .fault-of .ensures, ← c .before .k-waits3 .ensures, ← c .o-waits2 .ensures) (search branches depth 16)
 
 returns-7 : tie.Need-returns-7
 unfolding stateOf
@@ -64,15 +69,16 @@ state-of-spec =
     returns
     returns-2
     returns-3
+    is-between-requires
     k-waits-requires
-    o-waits-requires
-    up-to-requires
     returns-4
+    is-between-requires-2
     k-waits-requires-2
-    up-to-requires-2
+    o-waits-requires
     returns-5
+    is-between-requires-3
+    fault-of-requires
     k-waits-requires-3
     o-waits-requires-2
-    up-to-requires-3
     returns-6
     returns-7)

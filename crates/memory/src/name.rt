@@ -1,0 +1,76 @@
+// The name in a head: compared by value, and judged.
+ghost use mathlib.Core.Path.{_≡_};
+ghost use mathlib.Core.Bool.{_||_};
+ghost use lib.Dec.{eqb};
+ghost use lib.ListN.{length};
+ghost use Rattle.epe.specs.Ident.{sameIdent, identInForm};
+ghost use Rattle.epe.specs.Name.{nameInForm};
+ghost use Rattle.model.specs.Book.{sameName};
+ghost use Rattle.memory.specs.Heads.{nameIn};
+use crate::number::read_eight;
+use crate::number::read_four;
+use crate::number::read_two;
+use calendar::date::Date;
+use calendar::date::is_real;
+use epe::ident::Ident;
+use epe::ident::is_identifier;
+use epe::name::Name;
+use text::bytes::equal;
+use text::bytes::first;
+use text::bytes::rest;
+
+// Is the shipment of that identifier?
+pub fn is_called(head: &[u8], ident: Ident) -> bool
+    requires { ⌜ length (now head) ≡ 64 ⌝ }
+    ensures { λ r. ⌜ r ≡ sameIdent ident (nameIn (now (head .entry)) .ident) ⌝ }
+{
+    let bytes = ident.bytes;
+    ident.len == head[17] as usize && equal(&bytes, first(head, 17))
+}
+
+// Is the shipment of that name?
+pub fn is_named(head: &[u8], name: Name) -> bool
+    requires { ⌜ length (now head) ≡ 64 ⌝ }
+    ensures { λ r. ⌜ r ≡ sameName name (nameIn (now (head .entry))) ⌝ }
+{
+    is_called(head, name.ident)
+        && (name.date.0 == read_four(head, 18)
+            && (name.payment == head[22] && name.kind == head[23] as u64))
+}
+
+// Have two shipments the same identifier? Its last byte and its length are compared as one number.
+pub fn are_namesakes(head: &[u8], other: &[u8]) -> bool
+    requires { ⌜ (length (now head) ≡ 64) × (length (now other) ≡ 64) ⌝ }
+    ensures { λ r. ⌜ r ≡ sameIdent (nameIn (now (head .entry)) .ident) (nameIn (now (other .entry)) .ident) ⌝ }
+{
+    read_eight(head, 0) == read_eight(other, 0)
+        && (read_eight(head, 8) == read_eight(other, 8)
+            && read_two(head, 16) == read_two(other, 16))
+}
+
+// Is the identifier in form?
+fn has_ident_in_form(head: &[u8]) -> bool
+    requires { ⌜ length (now head) ≡ 64 ⌝ }
+    ensures { λ r. ⌜ r ≡ identInForm (nameIn (now (head .entry)) .ident) ⌝ }
+{
+    let zeros = [0u8; 17];
+    let bytes = first(head, 17);
+    let len = head[17] as usize;
+    len <= 17 && (is_identifier(first(bytes, len)) && equal(rest(bytes, len), rest(&zeros, len)))
+}
+
+// Is the byte A or B?
+fn is_payment(byte: u8) -> bool
+    ensures { λ r. ⌜ r ≡ (eqb byte 0x41 || eqb byte 0x42) ⌝ }
+{
+    byte == b'A' || byte == b'B'
+}
+
+// Are all parts of the name in form?
+pub fn has_name_in_form(head: &[u8]) -> bool
+    requires { ⌜ length (now head) ≡ 64 ⌝ }
+    ensures { λ r. ⌜ r ≡ nameInForm (nameIn (now (head .entry))) ⌝ }
+{
+    has_ident_in_form(head)
+        && (is_real(Date(read_four(head, 18))) && (is_payment(head[22]) && head[23] <= 4))
+}
