@@ -4,4 +4,5 @@ pub mod RowLaws
 pub mod HeadLaws
 pub mod NameLaws
 pub mod ReadLaws
+pub mod EnterLaws
 pub mod Examples

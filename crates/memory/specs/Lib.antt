@@ -3,3 +3,4 @@ pub mod Layout
 pub mod Rows
 pub mod Heads
 pub mod Read
+pub mod Enter

@@ -1,4 +1,5 @@
 // The lent memory of a book: where its fields lie, read and stored in place. docs/LAYOUT.md has the table.
+pub mod enter;
 pub mod head;
 pub mod name;
 pub mod number;

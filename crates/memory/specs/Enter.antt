@@ -1,0 +1,54 @@
+-- A shipment entered: a row for each order, and a head. "Intake adds a shipment that is Waiting, without go-ahead or money, its orders Open or Faulty
+-- with both moneys waiting."
+use mathlib.Core.Path.{_≡_}
+use mathlib.Core.Bool.{true, false}
+use mathlib.Core.List.{List, [], _∷_, _++_}
+use Prim.Native.Nat.{ℕ, zero, suc, _/_, _%_}
+use lib.ListN.{replicate}
+use Rattle.epe.specs.declared.name.Name.{Name}
+use Rattle.epe.specs.declared.record.Order.{Order}
+use Rattle.model.specs.Book.{enteredRow}
+use Rattle.model.specs.declared.Row.{Row}
+use Rattle.model.specs.declared.Stage.the-variants.{Waiting}
+use Rattle.memory.specs.Number.{numberAt}
+use Rattle.memory.specs.Layout.{headBytes, rowBytes, OnlyHead, OnlyRow}
+use Rattle.memory.specs.Rows.{rowOf}
+use Rattle.memory.specs.Heads.{flagsInForm, shipmentIn}
+
+-- Row k is that of an order, and nothing else moves.
+pub record OrderEntered (order : Order) (k : ℕ) (m m′ : List ℕ) : Type 0 where
+  pub row : rowOf (rowBytes m′ k) ≡ enteredRow order
+  pub only : OnlyRow k m m′
+
+-- Head i is that of a shipment of n orders, just entered, and nothing else moves.
+pub record HeadEntered (name : Name) (fee n i : ℕ) (m m′ : List ℕ) : Type 0 where
+  pub shipment : (rows : List Row) → shipmentIn (headBytes m′ i) rows ≡ record {
+    name = name;
+    fee = fee;
+    stage = Waiting;
+    goAhead = false;
+    acceptedK = 0;
+    acceptedO = 0;
+    returnedK = 0;
+    returnedO = 0;
+    rows = rows;
+  }
+  pub orders : numberAt 2 (headBytes m′ i) 30 ≡ n
+  pub flags : flagsInForm (headBytes m′ i) ≡ true
+  pub only : OnlyHead i m m′
+
+-- A number as bytes, least first.
+abbrev pub bytesOf : ℕ → ℕ → List ℕ
+bytesOf zero n = []
+bytesOf (suc width) n = n % 256 ∷ bytesOf width (n / 256)
+
+-- Bytes 17 to 63 of such a head, behind the identifier.
+unfoldable pub fieldsOf : Name → ℕ → ℕ → List ℕ
+fieldsOf name fee n =
+    name .ident .len
+    ∷ bytesOf 4 (name .date .0) ++ name .payment ∷ name .kind ∷ bytesOf 4 fee ++ 0 ∷ 0 ∷ bytesOf 2 n ++ replicate 32 0
+
+-- Head i is the 64 bytes given, and nothing else moves.
+pub record HeadStored (head : List ℕ) (i : ℕ) (m m′ : List ℕ) : Type 0 where
+  pub bytes : headBytes m′ i ≡ head
+  pub only : OnlyHead i m m′

@@ -1,0 +1,91 @@
+// A shipment entered: its rows, and its head.
+use crate::head::HEADS;
+use crate::number::store_four;
+use crate::row::ROWS;
+use crate::row::store_state;
+use epe::name::Name;
+use epe::record::Order;
+use model::State;
+ghost use mathlib.Core.Path.{_≡_};
+ghost use mathlib.Core.Bool.{true};
+ghost use mathlib.Core.List.{_++_};
+ghost use Prim.Native.Nat.{_≤_, _<_, _^_};
+ghost use lib.ListN.{length, replicate};
+ghost use Rattle.epe.specs.Name.{nameInForm};
+ghost use Rattle.model.specs.Book.{enteredRow};
+ghost use Rattle.memory.specs.Layout.{size};
+ghost use Rattle.memory.specs.Enter.{OrderEntered, HeadEntered, fieldsOf, HeadStored};
+
+// The state of an order as it is entered.
+fn entered_state(order: Order) -> State
+    ensures { λ r. ⌜ r ≡ enteredRow order .state ⌝ }
+{
+    if order.fault == 0 {
+        return State::Open;
+    }
+    State::Faulty(order.fault, true, true)
+}
+
+// Enters an order in row k.
+pub fn enter_order(memory: &mut [u8], k: usize, order: Order)
+    requires { ⌜ (k < 2_048) × (size ≤ length (now memory)) × (order .amount .0 < 2 ^ 32) × (order .fault ≤ 10) ⌝ }
+    ensures { λ _. ⌜ OrderEntered order k (now (memory .entry)) (now (memory .exit)) ⌝ }
+{
+    let at = ROWS + 8 * k;
+    store_four(memory, at, order.amount.0);
+    let state = entered_state(order);
+    store_state(memory, k, state);
+}
+
+// The head of a shipment as it is entered, but for the identifier.
+fn fields(name: Name, fee: u64, n: u64) -> [u8; 64]
+    requires { ⌜ (name .ident .len ≤ 17) × (name .kind ≤ 4) ⌝ }
+    ensures { λ r. ⌜ r ≡ replicate 17 0 ++ fieldsOf name fee n ⌝ }
+{
+    let mut head = [0u8; 64];
+    head[17] = name.ident.len as u8;
+    store_four(&mut head, 18, name.date.0);
+    head[22] = name.payment;
+    head[23] = name.kind as u8;
+    store_four(&mut head, 24, fee);
+    head[30] = (n % 256) as u8;
+    head[31] = (n / 256 % 256) as u8;
+    head
+}
+
+// The head of a shipment of n orders as it is entered.
+fn head_of(name: Name, fee: u64, n: u64) -> [u8; 64]
+    requires { ⌜ (name .ident .len ≤ 17) × (name .kind ≤ 4) ⌝ }
+    ensures { λ r. ⌜ r ≡ name .ident .bytes ++ fieldsOf name fee n ⌝ }
+{
+    let bytes = name.ident.bytes;
+    let mut head = fields(name, fee, n);
+    let mut j = 0;
+    while j < 17 {
+        head[j] = bytes[j];
+        j += 1;
+    }
+    head
+}
+
+// Stores 64 bytes as head i.
+fn store_head(memory: &mut [u8], i: usize, head: [u8; 64])
+    requires { ⌜ (i < 32) × (size ≤ length (now memory)) ⌝ }
+    ensures { λ _. ⌜ HeadStored head i (now (memory .entry)) (now (memory .exit)) ⌝ }
+{
+    let at = HEADS + 64 * i;
+    let mut j = 0;
+    while j < 64 {
+        memory[at + j] = head[j];
+        j += 1;
+    }
+}
+
+// Enters a shipment of n orders in head i.
+pub fn enter_head(memory: &mut [u8], i: usize, name: Name, fee: u64, n: u64)
+    requires { ⌜ (i < 32) × (size ≤ length (now memory)) × (nameInForm name ≡ true) × (fee < 2 ^ 32) × (n < 2 ^ 16) ⌝ }
+    ensures { λ _. ⌜ HeadEntered name fee n i (now (memory .entry)) (now (memory .exit)) ⌝ }
+{
+    let head = head_of(name, fee, n);
+    store_head(memory, i, head);
+}
