@@ -1,0 +1,28 @@
+-- `sound::shipment::do_moneys_fit` asks K, then O.
+use Rattle.text.proofs.Branches.{branches}
+use Rattle.sound.specs.Tally.{moneysFit}
+use borrow.Author.Needs.{needs}
+use Rattle.sound.proofs.shipment.do_moneys_fit.Statement.{statement}
+use Rattle.sound.proofs.shipment.do_moneys_fit.Tie as tie
+
+does-money-fit-requires : tie.Need-does-money-fit-requires
+does-money-fit-requires c κs = search needs
+
+fees-requires : tie.Need-fees-requires
+fees-requires c κs = search needs
+
+does-money-fit-requires-2 : tie.Need-does-money-fit-requires-2
+does-money-fit-requires-2 c κs = search needs
+
+returns : tie.Need-returns
+unfolding moneysFit
+returns c = rw (← c .before .fees .ensures .0) (search branches depth 12)
+
+returns-2 : tie.Need-returns-2
+unfolding moneysFit
+returns-2 c = search branches depth 12
+
+pub do-moneys-fit-spec : {M : Type 1} → statement M
+do-moneys-fit-spec =
+    tie.close
+    (tie.spec does-money-fit-requires fees-requires does-money-fit-requires-2 returns returns-2)

@@ -1,0 +1,24 @@
+// Whether lent memory is a sound book, judged in one pass over its heads and rows.
+mod apart;
+pub mod shipment;
+pub mod tally;
+
+use crate::apart::are_apart;
+use crate::shipment::are_sound;
+use memory::SIZE;
+use memory::row::class_table;
+use memory::shipments;
+ghost use mathlib.Core.Path.{_≡_};
+ghost use Rattle.memory.specs.Read.{soundIn};
+
+// Is the memory a sound book?
+pub fn is_sound(memory: &[u8]) -> bool
+    ensures { λ r. ⌜ r ≡ soundIn (now (memory .entry)) ⌝ }
+{
+    if memory.len() < SIZE {
+        return false;
+    }
+    let table = class_table();
+    let n = shipments(memory);
+    n <= 32 && (are_sound(memory, n, &table) && are_apart(memory, n))
+}

@@ -1,0 +1,163 @@
+// Whether a shipment is sound, by its head and the tally of its rows; and all shipments, one after the other.
+use crate::tally::ONLY_PAIRED;
+use crate::tally::OUT_OF_RANGE;
+use crate::tally::Tally;
+use crate::tally::has_faulty;
+use crate::tally::tally_by;
+use memory::head::accepted;
+use memory::head::fee;
+use memory::head::has_flags_in_form;
+use memory::head::has_go_ahead;
+use memory::head::head_bytes;
+use memory::head::is_paired;
+use memory::head::is_waiting;
+use memory::head::orders;
+use memory::head::returned;
+use memory::name::has_name_in_form;
+use money::Amount;
+use money::Fee;
+use money::Money;
+ghost use mathlib.Core.Path.{_≡_};
+ghost use Prim.Native.Nat.{_*_, _≤_, _<_, _^_};
+ghost use lib.Dec.{leb};
+ghost use lib.ListN.{length};
+ghost use Rattle.money.specs.Money.{orderCap};
+ghost use Rattle.model.specs.Shipment.{when};
+ghost use Rattle.memory.specs.Number.{numberAt};
+ghost use Rattle.memory.specs.Layout.{size};
+ghost use Rattle.memory.specs.Rows.{classTable};
+ghost use Rattle.sound.specs.Tally.{pairedIn, rowsFit, goAheadFits, sumsFit, moneyFits, moneysFit, judged};
+ghost use Rattle.sound.specs.Walk.{soundAt, soundFrom};
+
+// Is the fee in range?
+fn is_fee_in_range(head: &[u8]) -> bool
+    requires { ⌜ length (now head) ≡ 64 ⌝ }
+    ensures { λ r. ⌜ r ≡ leb (numberAt 4 (now (head .entry)) 24) orderCap ⌝ }
+{
+    fee(head) <= Fee::ORDER_CAP
+}
+
+// May the shipment, Paired or not, have such rows?
+fn do_rows_fit(head: &[u8], tally: Tally) -> bool
+    requires { ⌜ length (now head) ≡ 64 ⌝ }
+    ensures { λ r. ⌜ r ≡ rowsFit (now (head .entry)) tally ⌝ }
+{
+    if is_paired(head) {
+        return tally.classes < OUT_OF_RANGE;
+    }
+    tally.classes < ONLY_PAIRED
+}
+
+// Does the go-ahead, or none, fit the faults?
+fn does_go_ahead_fit(head: &[u8], tally: Tally) -> bool
+    requires { ⌜ length (now head) ≡ 64 ⌝ }
+    ensures { λ r. ⌜ r ≡ goAheadFits (now (head .entry)) tally ⌝ }
+{
+    let faulty = has_faulty(tally);
+    if has_go_ahead(head) {
+        return faulty;
+    }
+    if is_paired(head) {
+        return !faulty;
+    }
+    true
+}
+
+// The fees of n orders.
+pub fn fees(head: &[u8], n: u64) -> u64
+    requires { ⌜ (length (now head) ≡ 64) × (n ≤ 2_048) ⌝ }
+    ensures { λ r. ⌜ (r ≡ n * numberAt 4 (now (head .entry)) 24) × (r < 2 ^ 60) ⌝ }
+{
+    n * fee(head)
+}
+
+// What is needed once the shipment is Paired, and nothing before.
+fn need_once_paired(head: &[u8], need: u64) -> u64
+    requires { ⌜ length (now head) ≡ 64 ⌝ }
+    ensures { λ r. ⌜ (r ≡ when (pairedIn (now (head .entry))) need) × (r ≤ need) ⌝ }
+{
+    if is_paired(head) {
+        return need;
+    }
+    0
+}
+
+// Are the sums in range, what was accepted at least what was returned and is needed, and nothing returned while Waiting?
+fn do_sums_fit(accepted: u64, returned: u64, need: u64, waiting: bool) -> bool
+    requires { ⌜ need < 2 ^ 60 ⌝ }
+    ensures { λ r. ⌜ r ≡ sumsFit accepted returned need waiting ⌝ }
+{
+    accepted <= Amount::SUM_CAP
+        && (returned <= Amount::SUM_CAP
+            && (returned + need <= accepted && (!waiting || returned == 0)))
+}
+
+// Do the sums of a money fit?
+fn does_money_fit(head: &[u8], money: Money, need: u64) -> bool
+    requires { ⌜ (length (now head) ≡ 64) × (need < 2 ^ 60) ⌝ }
+    ensures { λ r. ⌜ r ≡ moneyFits (now (head .entry)) money need ⌝ }
+{
+    do_sums_fit(
+        accepted(head, money),
+        returned(head, money),
+        need_once_paired(head, need),
+        is_waiting(head),
+    )
+}
+
+// Do the sums of both moneys fit a shipment of n orders?
+fn do_moneys_fit(head: &[u8], n: u64, tally: Tally) -> bool
+    requires { ⌜ (length (now head) ≡ 64) × (n ≤ 2_048) × (tally .amounts < 2 ^ 60) ⌝ }
+    ensures { λ r. ⌜ r ≡ moneysFit (now (head .entry)) n tally ⌝ }
+{
+    does_money_fit(head, Money::K, tally.amounts) && does_money_fit(head, Money::O, fees(head, n))
+}
+
+// Is a shipment of n orders sound, but for its name?
+fn judge(head: &[u8], n: u64, tally: Tally) -> bool
+    requires { ⌜ (length (now head) ≡ 64) × (n ≤ 2_048) × (tally .amounts < 2 ^ 60) ⌝ }
+    ensures { λ r. ⌜ r ≡ judged (now (head .entry)) n tally ⌝ }
+{
+    is_fee_in_range(head)
+        && (1 <= n
+            && (do_rows_fit(head, tally)
+                && (does_go_ahead_fit(head, tally) && do_moneys_fit(head, n, tally))))
+}
+
+// Is the shipment of head i sound, its rows from the k-th on?
+fn is_sound_at(memory: &[u8], i: usize, k: usize, table: &[u64]) -> bool
+    requires { ⌜ (i < 32) × (k ≤ 2_048) × (size ≤ length (now memory)) × (now table ≡ classTable) ⌝ }
+    ensures { λ r. ⌜ r ≡ soundAt (now (memory .entry)) i k ⌝ }
+{
+    let head = head_bytes(memory, i);
+    if !has_flags_in_form(head) {
+        return false;
+    }
+    let n = orders(head);
+    if 2_048 < k as u64 + n {
+        return false;
+    }
+    if !has_name_in_form(head) {
+        return false;
+    }
+    judge(head, n, tally_by(memory, k, n as usize, table))
+}
+
+// Are n shipments sound, each by itself?
+pub fn are_sound(memory: &[u8], n: usize, table: &[u64]) -> bool
+    requires { ⌜ (n ≤ 32) × (size ≤ length (now memory)) × (now table ≡ classTable) ⌝ }
+    ensures { λ r. ⌜ r ≡ soundFrom (now (memory .entry)) 0 0 n ⌝ }
+{
+    let mut i = 0;
+    let mut k = 0;
+    let mut left = n;
+    while 0 < left {
+        if !is_sound_at(memory, i, k, table) {
+            return false;
+        }
+        k += orders(head_bytes(memory, i)) as usize;
+        i += 1;
+        left -= 1;
+    }
+    true
+}
