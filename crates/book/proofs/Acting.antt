@@ -1,0 +1,64 @@
+-- What is done at a place where the shipment is left as it was, where its head alone changes, and where its rows do.
+-- Assumes nothing.
+use mathlib.Core.Path.{_≡_, refl, sym, ap}
+use mathlib.Core.Bool.{Bool, true, false}
+use mathlib.Core.List.{List}
+use Prim.Native.Nat.{ℕ}
+use Rattle.model.specs.Shipment.{Shipment}
+use Rattle.model.specs.Calls.{Answer, Refused, isRefusal, Outcome, leave, ask, withRows}
+use Rattle.model.specs.declared.Row.{Row}
+use Rattle.model.proofs.Asking.{not-both}
+use Rattle.memory.specs.Layout.{headBytes, OnlyHead}
+use Rattle.memory.specs.Heads.{flagsInForm, shipmentIn}
+use Rattle.memory.specs.Read.{rowsFrom, ordersAt, shipmentAt}
+use Rattle.book.specs.Place.{OnlyShipment, ActAt}
+use Rattle.book.proofs.Frames.{only-nothing, head-of-shipment}
+use Rattle.book.proofs.RowLaws.{rows-alike}
+
+-- a question of a shipment
+pub ask-yes : (t : Bool) (number : ℕ) (s : Shipment) (next : Outcome) → t ≡ true → ask t number s next ≡ next
+unfolding ask
+ask-yes t number s next h = rw h
+
+pub ask-no : (t : Bool) (number : ℕ) (s : Shipment) (next : Outcome) → t ≡ false → ask t number s next ≡ leave (Refused number) s
+unfolding ask
+ask-no t number s next h = rw h
+
+module _ {m : List ℕ} {i k : ℕ} {does : Shipment → Outcome} where
+  pub left-at : {answer : Answer} → does (shipmentAt m i k) ≡ leave answer (shipmentAt m i k) → ActAt m i k does answer m
+  left-at left = record {
+    answers = sym (ap (λ (outcome : Outcome). outcome .answer) left);
+    leaves = sym (ap (λ (outcome : Outcome). outcome .shipment) left);
+    only = only-nothing;
+    orders = refl;
+    flags = λ h. h;
+    refused = λ refusal. refl;
+  }
+
+  pub refused-at : {number : ℕ} → does (shipmentAt m i k) ≡ leave (Refused number) (shipmentAt m i k) → ActAt m i k does (Refused number) m
+  refused-at = left-at
+
+  module _ {m′ : List ℕ} {answer : Answer} (taken : isRefusal answer ≡ false) where
+    pub head-changed : {t : Shipment} → OnlyHead i m m′ → shipmentIn (headBytes m′ i) (rowsFrom m k (ordersAt m i)) ≡ t
+        → does (shipmentAt m i k) ≡ leave answer t → ordersAt m′ i ≡ ordersAt m i
+        → (flagsInForm (headBytes m i) ≡ true → flagsInForm (headBytes m′ i) ≡ true) → ActAt m i k does answer m′
+    head-changed only new done orders flags = record {
+      answers = sym (ap (λ (outcome : Outcome). outcome .answer) done);
+      leaves = rw (orders, rows-alike m m′ k (ordersAt m i) (λ r from below. only .rows r), done) new;
+      only = head-of-shipment only;
+      orders = orders;
+      flags = flags;
+      refused = λ refusal. absurd (not-both (isRefusal answer) refusal taken);
+    }
+
+    pub rows-changed : {rows : List Row} → OnlyShipment i k (ordersAt m i) m m′ → headBytes m′ i ≡ headBytes m i → rowsFrom m′ k (ordersAt m i) ≡ rows
+        → does (shipmentAt m i k) ≡ leave answer (withRows rows (shipmentAt m i k)) → ActAt m i k does answer m′
+    unfolding shipmentIn
+    rows-changed only head new done = record {
+      answers = sym (ap (λ (outcome : Outcome). outcome .answer) done);
+      leaves = rw (head, new, done);
+      only = only;
+      orders = rw head;
+      flags = λ h. rw head h;
+      refused = λ refusal. absurd (not-both (isRefusal answer) refusal taken);
+    }

@@ -1,0 +1,17 @@
+pub mod Frames
+pub mod RowLaws
+pub mod Storing
+pub mod Finding
+pub mod Changing
+pub mod Calls
+pub mod Acting
+pub mod HeadFields
+pub mod Orders
+pub mod Returns
+pub mod HeadActs
+pub mod ShipmentActs
+pub mod Needs
+pub mod PairingActs
+pub mod SurplusActs
+pub mod Seeking
+pub mod Making

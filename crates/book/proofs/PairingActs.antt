@@ -1,0 +1,121 @@
+-- A go-ahead and pairing, at the place of a shipment.
+-- Assumes nothing.
+use mathlib.Core.Path.{_≡_, refl, sym, ap, _∙_}
+use mathlib.Core.Bool.{Bool, true, false, not, _&&_, _||_}
+use mathlib.Core.List.{List}
+use Prim.Native.Nat.{ℕ, _+_, _*_, _-_}
+use lib.Dec.{leb, ltb}
+use lib.ListN.{getD, set}
+use Rattle.money.specs.declared.Money.the-variants.{K, O}
+use Rattle.model.specs.Shipment.{Shipment, accepted, isWaiting, need, anyFaulty}
+use Rattle.model.specs.Calls.{Refused, Done, IsPaired, Short, Outcome, leave, choose, goneAhead, paired}
+use Rattle.model.specs.declared.Stage.the-variants.{Paired}
+use Rattle.memory.specs.Number.{numberAt}
+use Rattle.memory.specs.Layout.{headAt, headBytes}
+use Rattle.memory.specs.Heads.{stageOf, stageByte, goAheadIn, acceptedAt}
+use Rattle.memory.specs.Read.{rowsFrom, shipmentAt}
+use Rattle.sound.specs.Tally.{tallyOf, faultyIn}
+use Rattle.sound.specs.declared.tally.Tally.{Tally}
+use Rattle.book.specs.Place.{Sits, ActAt}
+use Rattle.book.proofs.HeadFields.{waiting-is, go-ahead-is, accepted-is}
+use Rattle.book.proofs.Acting.{ask-yes, ask-no, left-at, refused-at}
+use Rattle.book.proofs.HeadActs.{stage-changed, go-ahead-changed}
+use Rattle.book.proofs.Needs.{covered-is, neither, need-in-fees, need-in-amounts, faulty-is}
+
+choose-first : (t : Bool) (a b : Outcome) → t ≡ true → choose t a b ≡ a
+unfolding choose
+choose-first t a b h = rw h
+
+choose-second : (t : Bool) (a b : Outcome) → t ≡ false → choose t a b ≡ b
+unfolding choose
+choose-second t a b h = rw h
+
+module _ (m : List ℕ) (i k : ℕ) (sits : Sits m i k) {head : List ℕ} (is-head : head ≡ headBytes m i) where
+  abbrev s : Shipment
+  s = shipmentAt m i k
+
+  -- "Waiting? 15"
+  module _ {waiting : Bool} (is-waiting : waiting ≡ isWaiting (stageOf (getD head 28 0))) where
+    waiting-test : isWaiting (s .stage) ≡ waiting
+    waiting-test = sym (is-waiting ∙ waiting-is m i k is-head)
+
+    pub no-go-ahead-at : waiting ≡ false → ActAt m i k goneAhead (Refused 15) m
+    unfolding goneAhead
+    no-go-ahead-at other = refused-at (ask-no _ 15 _ _ (waiting-test ∙ other))
+
+    pub no-pairing-at : waiting ≡ false → ActAt m i k paired (Refused 15) m
+    unfolding paired
+    no-pairing-at other = refused-at (ask-no _ 15 _ _ (waiting-test ∙ other))
+
+    module _ (held : waiting ≡ true) {n : ℕ} (is-count : n ≡ numberAt 2 head 30) {tally : Tally} (is-tally : tally ≡ tallyOf (rowsFrom m k n)) where
+      -- "Any faulty order? 16. None came before? 17."
+      module _ {faulty : Bool} (is-faulty : faulty ≡ faultyIn tally) where
+        faulty-test : faulty ≡ anyFaulty (s .rows)
+        faulty-test = is-faulty ∙ faulty-is m i k sits is-head is-count is-tally
+
+        pub no-faults-at : faulty ≡ false → ActAt m i k goneAhead (Refused 16) m
+        unfolding goneAhead
+        no-faults-at none = refused-at (ask-yes _ 15 _ _ (waiting-test ∙ held) ∙ ask-no _ 16 _ _ (sym faulty-test ∙ none))
+
+        module _ (faults : faulty ≡ true) {came : Bool} (is-came : came ≡ goAheadIn head) where
+          came-test : came ≡ s .goAhead
+          came-test = is-came ∙ go-ahead-is m i k is-head
+
+          pub second-at : came ≡ true → ActAt m i k goneAhead (Refused 17) m
+          unfolding goneAhead
+          second-at again =
+              refused-at
+              (ask-yes _ 15 _ _ (waiting-test ∙ held)
+              ∙ ask-yes _ 16 _ _ (sym faulty-test ∙ faults)
+              ∙ ask-no _ 17 _ _ (ap not (sym came-test ∙ again)))
+
+          pub gone-ahead-at : came ≡ false → ActAt m i k goneAhead Done (set m (headAt i + 29) 1)
+          unfolding goneAhead
+          gone-ahead-at first =
+              go-ahead-changed sits refl
+              (ask-yes _ 15 _ _ (waiting-test ∙ held)
+              ∙ ask-yes _ 16 _ _ (sym faulty-test ∙ faults)
+              ∙ ask-yes _ 17 _ _ (ap not (sym came-test ∙ first)))
+
+      -- "No faults, or go-ahead given? 18. Paired when both needs are covered; Short changes nothing."
+      module _ {may : Bool} (is-may : may ≡ (not (faultyIn tally) || goAheadIn head)) where
+        may-test : (not (anyFaulty (s .rows)) || s .goAhead) ≡ may
+        may-test = sym (is-may ∙ (λ t. not (faulty-is m i k sits is-head is-count is-tally t) || go-ahead-is m i k is-head t))
+
+        pub faults-at : may ≡ false → ActAt m i k paired (Refused 18) m
+        unfolding paired
+        faults-at barred = refused-at (ask-yes _ 15 _ _ (waiting-test ∙ held) ∙ ask-no _ 18 _ _ (may-test ∙ barred))
+
+        module _ (free : may ≡ true) {amount fee fees k-in o-in : ℕ} (is-amount : amount ≡ tally .amounts - k-in) (is-fee : fee ≡ fees - o-in)
+            (are-fees : fees ≡ n * numberAt 4 head 24) (is-k-in : k-in ≡ numberAt 8 head (acceptedAt K)) (is-o-in : o-in ≡ numberAt 8 head (acceptedAt O))
+            {short : Bool} (is-short : short ≡ (ltb 0 amount || ltb 0 fee)) where
+          amount-is : amount ≡ need K s - accepted K s
+          amount-is =
+              is-amount
+              ∙ (λ t. need-in-amounts m i k sits is-head is-count is-tally t - (is-k-in ∙ accepted-is m i k is-head K) t)
+
+          fee-is : fee ≡ need O s - accepted O s
+          fee-is = is-fee ∙ (λ t. need-in-fees m i k sits is-head is-count are-fees t - (is-o-in ∙ accepted-is m i k is-head O) t)
+
+          covered-test : (leb (need K s) (accepted K s) && leb (need O s) (accepted O s)) ≡ not short
+          covered-test =
+              (λ t. covered-is (need K s) (accepted K s) t && covered-is (need O s) (accepted O s) t)
+              ∙ neither (ltb 0 (need K s - accepted K s)) (ltb 0 (need O s - accepted O s))
+              ∙ ap not (sym (is-short ∙ (λ t. ltb 0 (amount-is t) || ltb 0 (fee-is t))))
+
+          pub short-at : short ≡ true → ActAt m i k paired (Short amount fee) m
+          unfolding paired
+          short-at some =
+              left-at
+              (ask-yes _ 15 _ _ (waiting-test ∙ held)
+              ∙ ask-yes _ 18 _ _ (may-test ∙ free)
+              ∙ choose-second _ _ _ (covered-test ∙ ap not some)
+              ∙ (λ t. leave (Short (sym amount-is t) (sym fee-is t)) s))
+
+          pub paired-at : short ≡ false → ActAt m i k paired IsPaired (set m (headAt i + 28) (stageByte Paired))
+          unfolding paired
+          paired-at none =
+              stage-changed sits refl Paired
+              (ask-yes _ 15 _ _ (waiting-test ∙ held)
+              ∙ ask-yes _ 18 _ _ (may-test ∙ free)
+              ∙ choose-first _ _ _ (covered-test ∙ ap not none))

@@ -1,0 +1,60 @@
+-- A transfer, a go-ahead, pairing and closing, at the place of a shipment.
+-- Assumes nothing.
+use mathlib.Core.Path.{_≡_, refl, sym, _∙_}
+use mathlib.Core.Bool.{Bool, true, false}
+use mathlib.Core.List.{List}
+use Prim.Native.Nat.{ℕ, _+_, _≤_, _<_}
+use native.Mathlib.Omega.{arith}
+use borrow.Author.Tests.{le-leb, lt-leb}
+use lib.ListN.{getD, set}
+use Rattle.money.specs.Money.{sumCap}
+use Rattle.money.specs.declared.Money.{Money}
+use Rattle.model.specs.Shipment.{Shipment, accepted, isWaiting}
+use Rattle.model.specs.Calls.{Refused, Done, transferred, closed}
+use Rattle.model.specs.declared.Stage.the-variants.{Closed}
+use Rattle.model.proofs.SoundParts.{in-order}
+use Rattle.memory.specs.Number.{numberAt, withNumber}
+use Rattle.memory.specs.Layout.{headAt, headBytes}
+use Rattle.memory.specs.Heads.{stageOf, stageByte, acceptedAt}
+use Rattle.memory.specs.Read.{shipmentAt}
+use Rattle.book.specs.Place.{Sits, ActAt}
+use Rattle.book.proofs.HeadFields.{waiting-is, accepted-is}
+use Rattle.book.proofs.Acting.{ask-yes, ask-no, refused-at}
+use Rattle.book.proofs.HeadActs.{stage-changed, accepted-changed}
+
+module _ (m : List ℕ) (i k : ℕ) (sits : Sits m i k) {head : List ℕ} (is-head : head ≡ headBytes m i) where
+  abbrev s : Shipment
+  s = shipmentAt m i k
+
+  -- "Total accepted for that money still at most 9,999,999,999,999? 14"
+  module _ (money : Money) (amount : ℕ) {before : ℕ} (is-before : before ≡ numberAt 8 head (acceptedAt money)) where
+    before-is : before ≡ accepted money s
+    before-is = is-before ∙ accepted-is m i k is-head money
+
+    pub before-fits : before ≤ sumCap
+    before-fits = omega (arith, before-is, in-order s (sits .sound) .moneys money .accepted-fits)
+
+    pub too-much-at : sumCap < before + amount → ActAt m i k (transferred money amount) (Refused 14) m
+    unfolding transferred
+    too-much-at over = refused-at (ask-no _ 14 _ _ (lt-leb (accepted money s + amount) sumCap (omega (arith, before-is))))
+
+    pub transferred-at : before + amount ≤ sumCap
+        → ActAt m i k (transferred money amount) Done (withNumber 8 m (headAt i + acceptedAt money) (before + amount))
+    unfolding transferred
+    transferred-at within =
+        rw before-is
+        (accepted-changed sits refl money amount (omega (arith, before-is))
+        (ask-yes _ 14 _ _ (le-leb (accepted money s + amount) sumCap (omega (arith, before-is)))))
+
+  -- "Waiting? 15"
+  module _ {waiting : Bool} (is-waiting : waiting ≡ isWaiting (stageOf (getD head 28 0))) where
+    waiting-test : isWaiting (s .stage) ≡ waiting
+    waiting-test = sym (is-waiting ∙ waiting-is m i k is-head)
+
+    pub not-closed-at : waiting ≡ false → ActAt m i k closed (Refused 15) m
+    unfolding closed
+    not-closed-at other = refused-at (ask-no _ 15 _ _ (waiting-test ∙ other))
+
+    pub closed-at : waiting ≡ true → ActAt m i k closed Done (set m (headAt i + 28) (stageByte Closed))
+    unfolding closed
+    closed-at held = stage-changed sits refl Closed (ask-yes _ 15 _ _ (waiting-test ∙ held))

@@ -1,0 +1,62 @@
+-- `book::go_ahead` takes the go-ahead where the shipment is found.
+use Rattle.book.proofs.Seeking.{seeks-called}
+use Rattle.book.proofs.Calls.{sits, does-unsound, does-unknown, does-at}
+use Rattle.book.specs.Place.{calledIn}
+use Rattle.model.specs.Calls.{GoAhead, acted}
+use mathlib.Core.Path.{sym, _∙_}
+use borrow.Author.Needs.{needs}
+use Rattle.book.proofs.go_ahead.Statement.{statement}
+use Rattle.book.proofs.go_ahead.Tie as tie
+
+place-called-requires : tie.Need-place-called-requires
+place-called-requires c κs = search needs
+
+enum-told : tie.Need-enum-told
+enum-told c = search needs
+
+enum-told-2 : tie.Need-enum-told-2
+enum-told-2 c = search needs
+
+enum-known-i : tie.Need-enum-known-i
+enum-known-i c = search needs
+
+go-ahead-at-requires : tie.Need-go-ahead-at-requires
+go-ahead-at-requires c κs = let found = c .before .before in sits (calledIn _) (sym (found .before .before .place-called .ensures) ∙ found .i .given .1)
+
+same-length : tie.Need-same-length
+same-length c = search needs
+
+returns : tie.Need-returns
+returns c = does-unsound (seeks-called _ GoAhead) (sym (c .before .before .place-called .ensures) ∙ c .enum-told .given .1)
+
+same-length-2 : tie.Need-same-length-2
+same-length-2 c = search needs
+
+returns-2 : tie.Need-returns-2
+returns-2 c = does-unknown (seeks-called _ GoAhead) (sym (c .before .before .place-called .ensures) ∙ c .enum-told2 .given .1)
+
+same-length-3 : tie.Need-same-length-3
+same-length-3 c = search needs
+
+returns-3 : tie.Need-returns-3
+unfolding acted
+returns-3 c =
+    let acted-at = c .before .before in
+    let found = acted-at .before .before .before in
+    does-at (seeks-called _ GoAhead) (sym (found .before .before .place-called .ensures) ∙ found .i .given .1) (acted-at .go-ahead-at .ensures)
+
+pub go-ahead-spec : {M : Type 1} → statement M
+go-ahead-spec =
+    tie.close
+    (tie.spec
+    place-called-requires
+    enum-told
+    enum-told-2
+    enum-known-i
+    go-ahead-at-requires
+    same-length
+    returns
+    same-length-2
+    returns-2
+    same-length-3
+    returns-3)

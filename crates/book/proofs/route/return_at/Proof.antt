@@ -1,0 +1,126 @@
+-- `book::route::return_at` asks document 01's questions in turn.
+use Rattle.book.proofs.Returns.{room-at, unpaired-at, undelivered-fee-at, nothing-at, returned-at}
+use borrow.Author.Tests.{not-true, not-false}
+use native.Mathlib.Omega.{arith}
+use borrow.Author.Needs.{needs}
+use Rattle.book.proofs.route.return_at.Statement.{statement}
+use Rattle.book.proofs.route.return_at.Tie as tie
+
+head-bytes-requires : tie.Need-head-bytes-requires
+head-bytes-requires c κs = search needs
+
+is-paired-requires : tie.Need-is-paired-requires
+is-paired-requires c κs = search needs
+
+same-length : tie.Need-same-length
+same-length c = search needs
+
+returns : tie.Need-returns
+returns c =
+    let paired = c .before in
+    unpaired-at _ _ _ (paired .before .head-bytes .ensures .0) _ _ (paired .is-paired .ensures) (not-true _ (c .if1 .taken))
+
+is-zpr-with-o-requires : tie.Need-is-zpr-with-o-requires
+is-zpr-with-o-requires c κs = search needs
+
+same-length-2 : tie.Need-same-length-2
+same-length-2 c = search needs
+
+returns-2 : tie.Need-returns-2
+returns-2 c =
+    let barred = c .before in
+    let else-paired = barred .before in
+    let paired = else-paired .before in
+    let head = paired .before in
+    let start = head .before .before .before .args in
+    undelivered-fee-at (start .memory .now) (start .i) (start .k) (head .head-bytes .ensures .0) (start .route) (start .money)
+    (paired .is-paired .ensures) (not-false _ (else-paired .if1 .left)) (barred .is-zpr-with-o .ensures) (c .if2 .taken)
+
+orders-requires : tie.Need-orders-requires
+orders-requires c κs = search needs
+
+fee-requires : tie.Need-fee-requires
+fee-requires c κs = search needs
+
+waiting-in-requires : tie.Need-waiting-in-requires
+waiting-in-requires c κs =
+    let counted = c .before in
+    let head = counted .before .before .before .before .before in
+    let start = head .before .before .before in (
+      room-at (start .args .memory .now) (start .args .i) (start .args .k) (head .head-bytes .ensures .0) (counted .orders .ensures .0) (start .pre),
+      search needs,
+      search needs,
+    )
+
+same-length-3 : tie.Need-same-length-3
+same-length-3 c = search needs
+
+returns-3 : tie.Need-returns-3
+returns-3 c =
+    let waits = c .before in
+    let priced = waits .before in
+    let counted = priced .before in
+    let else-barred = counted .before in
+    let barred = else-barred .before in
+    let else-paired = barred .before in
+    let paired = else-paired .before in
+    let head = paired .before in
+    let start = head .before .before .before .args in
+    nothing-at (start .memory .now) (start .i) (start .k) (head .head-bytes .ensures .0) (start .route) (start .money)
+    (paired .is-paired .ensures) (not-false _ (else-paired .if1 .left)) (barred .is-zpr-with-o .ensures) (else-barred .if2 .left)
+    (counted .orders .ensures .0) (priced .fee .ensures .0) (waits .waiting-in .ensures) (c .if3 .taken)
+
+clear-requires : tie.Need-clear-requires
+clear-requires c κs =
+    let counted = c .before .before .before .before in
+    let head = counted .before .before .before .before .before in
+    let start = head .before .before .before in (
+      room-at (start .args .memory .now) (start .args .i) (start .args .k) (head .head-bytes .ensures .0) (counted .orders .ensures .0) (start .pre),
+      search needs,
+    )
+
+returning-requires : tie.Need-returning-requires
+returning-requires c κs = search needs
+
+same-length-4 : tie.Need-same-length-4
+same-length-4 c = search needs
+
+returns-4 : tie.Need-returns-4
+returns-4 c =
+    let cleared = c .before .before .before in
+    let else-nothing = cleared .before .before in
+    let waits = else-nothing .before in
+    let priced = waits .before in
+    let counted = priced .before in
+    let else-barred = counted .before in
+    let barred = else-barred .before in
+    let else-paired = barred .before in
+    let paired = else-paired .before in
+    let head = paired .before in
+    let start = head .before .before .before in
+    rw (c .returning .ensures)
+    (returned-at (start .args .memory .now) (start .args .i) (start .args .k) (head .head-bytes .ensures .0) (start .args .route) (start .args .money)
+    (paired .is-paired .ensures) (not-false _ (else-paired .if1 .left)) (barred .is-zpr-with-o .ensures) (else-barred .if2 .left)
+    (counted .orders .ensures .0) (priced .fee .ensures .0) (waits .waiting-in .ensures)
+    (start .pre) (omega (arith, else-nothing .if3 .left)) (cleared .clear .ensures))
+
+pub return-at-spec : {M : Type 1} → statement M
+return-at-spec =
+    tie.close
+    (tie.spec
+    head-bytes-requires
+    is-paired-requires
+    same-length
+    returns
+    is-zpr-with-o-requires
+    same-length-2
+    returns-2
+    orders-requires
+    fee-requires
+    waiting-in-requires
+    same-length-3
+    returns-3
+    clear-requires
+    returning-requires
+    same-length-4
+    returns-4)

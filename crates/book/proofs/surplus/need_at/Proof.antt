@@ -1,0 +1,89 @@
+-- `book::surplus::need_at` goes by the stage and the money.
+use Rattle.book.proofs.SurplusActs.{none-needed, needed}
+use Rattle.book.proofs.Needs.{room-at, few-at, need-in-fees, need-in-amounts}
+use Rattle.money.specs.declared.Money.the-variants.{K, O}
+use borrow.Author.Tests.{not-true, not-false}
+use borrow.Author.Needs.{needs}
+use Rattle.book.proofs.surplus.need_at.Statement.{statement}
+use Rattle.book.proofs.surplus.need_at.Tie as tie
+
+head-bytes-requires : tie.Need-head-bytes-requires
+head-bytes-requires c κs = search needs
+
+is-paired-requires : tie.Need-is-paired-requires
+is-paired-requires c κs = search needs
+
+returns : tie.Need-returns
+returns c =
+    let paired = c .before in
+    let head = paired .before in
+    let start = head .before .before in
+    none-needed _ _ _ (start .pre) (head .head-bytes .ensures .0) _ (paired .is-paired .ensures) (not-true _ (c .if1 .taken))
+
+orders-requires : tie.Need-orders-requires
+orders-requires c κs = search needs
+
+enum-told : tie.Need-enum-told
+enum-told c = search needs
+
+tally-rows-requires : tie.Need-tally-rows-requires
+tally-rows-requires c κs =
+    let told = c in
+    let counted = told .before .before in
+    let else-paired = counted .before in
+    let paired = else-paired .before in
+    let head = paired .before in
+    let start = head .before .before in
+    (room-at _ (start .args .i) _ (start .pre) (head .head-bytes .ensures .0) (counted .orders .ensures .0), start .pre .enough)
+
+enum-told-2 : tie.Need-enum-told-2
+enum-told-2 c = search needs
+
+fees-requires : tie.Need-fees-requires
+fees-requires c κs =
+    let told = c in
+    let counted = told .before .before in
+    let else-paired = counted .before in
+    let paired = else-paired .before in
+    let head = paired .before in
+    let start = head .before .before in
+    (head .head-bytes .ensures .1, few-at _ (start .args .i) (start .args .k) (start .pre) (head .head-bytes .ensures .0) (counted .orders .ensures .0))
+
+returns-2 : tie.Need-returns-2
+returns-2 c =
+    let told = c .before in
+    let counted = told .before .before in
+    let else-paired = counted .before in
+    let paired = else-paired .before in
+    let head = paired .before in
+    let start = head .before .before in
+    rw (told .enum-told .given .1)
+    (needed _ _ _ (start .pre) (head .head-bytes .ensures .0) K (paired .is-paired .ensures) (not-false _ (else-paired .if1 .left))
+    (need-in-amounts _ _ _ (start .pre) (head .head-bytes .ensures .0) (counted .orders .ensures .0) (c .tally-rows .ensures .0)))
+
+returns-3 : tie.Need-returns-3
+returns-3 c =
+    let told = c .before in
+    let counted = told .before .before in
+    let else-paired = counted .before in
+    let paired = else-paired .before in
+    let head = paired .before in
+    let start = head .before .before in
+    rw (told .enum-told2 .given .1)
+    (needed _ _ _ (start .pre) (head .head-bytes .ensures .0) O (paired .is-paired .ensures) (not-false _ (else-paired .if1 .left))
+    (need-in-fees _ _ _ (start .pre) (head .head-bytes .ensures .0) (counted .orders .ensures .0) (c .fees .ensures .0)))
+
+pub need-at-spec : {M : Type 1} → statement M
+need-at-spec =
+    tie.close
+    (tie.spec
+    head-bytes-requires
+    is-paired-requires
+    returns
+    orders-requires
+    enum-told
+    tally-rows-requires
+    enum-told-2
+    fees-requires
+    returns-2
+    returns-3)

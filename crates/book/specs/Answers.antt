@@ -1,0 +1,51 @@
+-- What each answer of the code says, as document 01's book answers.
+use Rattle.money.specs.declared.Money.{Money}
+use Rattle.money.specs.declared.Money.the-variants.{K, O}
+use Rattle.model.specs.Calls.{Answer, Refused, Done, IsPaired, Short, FeeEarned, AmountPaid, Returned}
+use Rattle.model.specs.declared.Deed.{Deed}
+use Rattle.model.specs.declared.Deed.the-variants.{Post, Pay, MarkUndelivered, Withdraw}
+use Rattle.book.specs.declared.answer.Reply.{Reply}
+use Rattle.book.specs.declared.answer.Reply.the-variants as reply
+use Rattle.book.specs.declared.answer.Pairing.{Pairing}
+use Rattle.book.specs.declared.answer.Pairing.the-variants as pairing
+use Rattle.book.specs.declared.answer.Posting.{Posting}
+use Rattle.book.specs.declared.answer.Posting.the-variants as posting
+use Rattle.book.specs.declared.answer.Payment.{Payment}
+use Rattle.book.specs.declared.answer.Payment.the-variants as payment
+use Rattle.book.specs.declared.answer.Returning.{Returning}
+use Rattle.book.specs.declared.answer.Returning.the-variants as returning
+use Rattle.book.specs.declared.order.Handling.{Handling}
+use Rattle.book.specs.declared.order.Handling.the-variants as handling
+
+abbrev pub replyOf : Reply → Answer
+replyOf reply.Done = Done
+replyOf (reply.Refused number) = Refused number
+
+abbrev pub pairingOf : Pairing → Answer
+pairingOf pairing.Paired = IsPaired
+pairingOf (pairing.Short amount fee) = Short (amount .0) (fee .0)
+pairingOf (pairing.Refused number) = Refused number
+
+abbrev pub postingOf : Posting → Answer
+postingOf (posting.Earned fee) = FeeEarned (fee .0)
+postingOf (posting.Refused number) = Refused number
+
+abbrev pub paymentOf : Payment → Answer
+paymentOf (payment.Paid amount) = AmountPaid (amount .0)
+paymentOf (payment.Refused number) = Refused number
+
+-- A return of one money in the form of the other would be no answer to a return.
+abbrev pub returningOf : Money → Returning → Answer
+returningOf K (returning.Amounts amount count) = Returned (amount .0) count
+returningOf K (returning.Fees fee count) = Done
+returningOf O (returning.Amounts amount count) = Done
+returningOf O (returning.Fees fee count) = Returned (fee .0) count
+returningOf money (returning.Refused number) = Refused number
+
+-- What is done with an order, before the deed's own answer is made of it: the fee of its shipment and its amount.
+abbrev pub handlingOf : Deed → Handling → Answer
+handlingOf Post (handling.Handled fee amount) = FeeEarned (fee .0)
+handlingOf Pay (handling.Handled fee amount) = AmountPaid (amount .0)
+handlingOf MarkUndelivered (handling.Handled fee amount) = Done
+handlingOf Withdraw (handling.Handled fee amount) = Done
+handlingOf deed (handling.Refused number) = Refused number

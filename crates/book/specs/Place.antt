@@ -1,0 +1,78 @@
+-- Where a call finds its shipment, and what it does there. Only the contracts of the functions below the calls need these.
+use mathlib.Core.Path.{_≡_}
+use mathlib.Core.Bool.{Bool, true, cond}
+use mathlib.Core.List.{List}
+use mathlib.Core.Logic.{_⊎_}
+use Prim.Native.Nat.{ℕ, zero, suc, _+_, _≤_, _<_}
+use lib.ListN.{length, getD}
+use Rattle.epe.specs.Ident.{sameIdent}
+use Rattle.epe.specs.declared.ident.Ident.{Ident}
+use Rattle.epe.specs.declared.name.Name.{Name}
+use Rattle.model.specs.Shipment.{Shipment}
+use Rattle.model.specs.Calls.{Call, Answer, Refused, isRefusal, Outcome}
+use Rattle.model.specs.Book.{Book, onFirst, sameName, step}
+use Rattle.model.specs.Sound.{shipmentSound}
+use Rattle.model.specs.declared.Row.{Row}
+use Rattle.memory.specs.Layout.{size, headBytes, rowBytes}
+use Rattle.memory.specs.Rows.{rowOf}
+use Rattle.memory.specs.Heads.{nameIn, flagsInForm, shipmentIn}
+use Rattle.memory.specs.Read.{ordersAt, shipmentAt, shipmentsIn, soundIn}
+use Rattle.book.specs.Does.{unreadable, Does}
+use Rattle.book.specs.declared.place.Place.{Place}
+use Rattle.book.specs.declared.place.Place.the-variants.{Unsound, Unknown, At}
+
+-- A head's shipment is of that identifier, or of that whole name.
+abbrev pub calledIn : Ident → List ℕ → Bool
+calledIn ident head = sameIdent ident (nameIn head .ident)
+
+abbrev pub namedIn : Name → List ℕ → Bool
+namedIn name head = sameName name (nameIn head)
+
+-- The first of n heads from the i-th on that passes a test, and its first row.
+unfoldable pub placeFrom : (List ℕ → Bool) → List ℕ → ℕ → ℕ → ℕ → Place
+placeFrom is m i k zero = Unknown
+placeFrom is m i k (suc n) = cond (is (headBytes m i)) (At i k) (placeFrom is m (suc i) (k + ordersAt m i) n)
+
+unfoldable pub placeIn : (List ℕ → Bool) → List ℕ → Place
+placeIn is m = cond (soundIn m) (placeFrom is m 0 0 (shipmentsIn m)) Unsound
+
+-- A shipment's place in a sound book: head i, its rows from the k-th on.
+pub record Sits (m : List ℕ) (i k : ℕ) : Type 0 where
+  pub enough : size ≤ length m
+  pub few : i < 32
+  pub room : k + ordersAt m i ≤ 2_048
+  pub sound : shipmentSound (shipmentAt m i k) ≡ true
+
+-- m′ is m but for head i and the n rows from the k-th on.
+pub record OnlyShipment (i k n : ℕ) (m m′ : List ℕ) : Type 0 where
+  pub shipments : getD m′ 0 0 ≡ getD m 0 0
+  pub other-heads : (j : ℕ) → j < 32 → (j ≡ i → ⊥) → headBytes m′ j ≡ headBytes m j
+  pub other-rows : (r : ℕ) → (r < k) ⊎ (k + n ≤ r) → rowBytes m′ r ≡ rowBytes m r
+  pub behind : (j : ℕ) → size ≤ j → getD m′ j 0 ≡ getD m j 0
+  pub as-long : length m′ ≡ length m
+
+-- Each of n rows from the k-th on is what is given for it, and nothing else moves.
+pub record RowsStored (given : ℕ → Row) (k n : ℕ) (m m′ : List ℕ) : Type 0 where
+  pub rows : (r : ℕ) → k ≤ r → r < k + n → rowOf (rowBytes m′ r) ≡ given r
+  pub heads : (i : ℕ) → i < 32 → headBytes m′ i ≡ headBytes m i
+  pub only : (i : ℕ) → OnlyShipment i k n m m′
+
+-- What the model does to a shipment is done to the one at a place: its answer, its fields, and nothing else.
+pub record ActAt (m : List ℕ) (i k : ℕ) (does : Shipment → Outcome) (answer : Answer) (m′ : List ℕ) : Type 0 where
+  pub answers : answer ≡ does (shipmentAt m i k) .answer
+  pub leaves : shipmentAt m′ i k ≡ does (shipmentAt m i k) .shipment
+  pub only : OnlyShipment i k (ordersAt m i) m m′
+  pub orders : ordersAt m′ i ≡ ordersAt m i
+  pub flags : flagsInForm (headBytes m i) ≡ true → flagsInForm (headBytes m′ i) ≡ true
+  pub refused : isRefusal answer ≡ true → m′ ≡ m
+
+-- A call that acts on the first shipment that passes a test, which its head decides.
+pub record Seeks (is : List ℕ → Bool) (does : Shipment → Outcome) (call : Call) : Type 0 where
+  pub called : Shipment → Bool
+  pub by-head : (head : List ℕ) (rows : List Row) → called (shipmentIn head rows) ≡ is head
+  pub steps : (book : Book) → step book call ≡ onFirst called does book
+  pub unread : unreadable call ≡ Refused 10
+
+-- What every such call promises, answered so.
+pub record DoesSought (is : List ℕ → Bool) (does : Shipment → Outcome) (before : List ℕ) (answer : Answer) (after : List ℕ) : Type 0 where
+  pub by-call : (call : Call) → Seeks is does call → Does before call answer after

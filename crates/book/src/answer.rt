@@ -1,0 +1,35 @@
+// What the calls answer, in document 01's forms. Two moneys are never in one number.
+use money::Amount;
+use money::Fee;
+
+// Done, or the number of the question answered no.
+pub enum Reply {
+    Done,
+    Refused(u64),
+}
+
+// Paired, or what is missing of either money.
+pub enum Pairing {
+    Paired,
+    Short(Amount, Fee),
+    Refused(u64),
+}
+
+// The fee that posting an order earned.
+pub enum Posting {
+    Earned(Fee),
+    Refused(u64),
+}
+
+// The amount that an order paid out.
+pub enum Payment {
+    Paid(Amount),
+    Refused(u64),
+}
+
+// What goes back: amounts or fees, and from how many orders.
+pub enum Returning {
+    Amounts(Amount, u64),
+    Fees(Fee, u64),
+    Refused(u64),
+}

@@ -1,0 +1,199 @@
+// The settlement book in lent memory: every call of document 01 but intake and the sheet.
+pub mod answer;
+mod order;
+mod place;
+pub mod refusals;
+mod route;
+mod shipment;
+mod surplus;
+
+use crate::answer::Pairing;
+use crate::answer::Payment;
+use crate::answer::Posting;
+use crate::answer::Reply;
+use crate::answer::Returning;
+use crate::order::Handling;
+use crate::order::handle_at;
+use crate::place::Place;
+use crate::place::find_named;
+use crate::place::place_called;
+use crate::route::return_at;
+use crate::shipment::close_at;
+use crate::shipment::go_ahead_at;
+use crate::shipment::pair_at;
+use crate::shipment::transfer_at;
+use crate::surplus::surplus_at;
+use epe::ident::Ident;
+use epe::name::Name;
+use epe::name::read_title;
+use epe::verdict::is_passed;
+use memory::SIZE;
+use memory::shipments;
+use memory::store_shipments;
+use model::Deed;
+use model::Route;
+use money::Amount;
+use money::Money;
+use sound::is_sound;
+use text::number::is_between;
+ghost use mathlib.Core.Path.{_≡_};
+ghost use mathlib.Core.Bool.{true};
+ghost use Prim.Native.Nat.{_≤_};
+ghost use Rattle.money.specs.Money.{sumCap};
+ghost use Rattle.model.specs.Calls.{GoAhead, Pair, Close, OnOrder, Return, Transfer, On, transferred, acted};
+ghost use Rattle.model.specs.declared.Deed.the-variants.{Post, Pay, MarkUndelivered, Withdraw};
+ghost use Rattle.book.specs.Answers.{replyOf, pairingOf, postingOf, paymentOf, returningOf, handlingOf};
+ghost use Rattle.memory.specs.Read.{soundIn};
+ghost use Rattle.book.specs.Does.{Does, MakesEmpty};
+ghost use Rattle.book.specs.Place.{namedIn, Sits, ActAt, DoesSought};
+
+// Makes an empty book in memory that is long enough, whatever it holds.
+pub fn make_empty(memory: &mut [u8]) -> Reply
+    ensures { λ r. ⌜ MakesEmpty (now (memory .entry)) (replyOf r) (now (memory .exit)) ⌝ }
+{
+    if memory.len() < SIZE {
+        return Reply::Refused(refusals::UNSOUND);
+    }
+    store_shipments(memory, 0);
+    Reply::Done
+}
+
+// A transfer to the shipment of a name, in a sound book.
+fn transfer_to(memory: &mut [u8], name: Name, money: Money, amount: u64) -> Reply
+    requires { ⌜ (soundIn (now memory) ≡ true) × (amount ≤ sumCap) ⌝ }
+    ensures { λ r. ⌜ DoesSought (namedIn name) (transferred money amount) (now (memory .entry)) (replyOf r) (now (memory .exit)) ⌝ }
+{
+    match find_named(memory, name, shipments(memory)) {
+        Place::Unsound => Reply::Refused(refusals::UNSOUND),
+        Place::Unknown => Reply::Refused(refusals::UNKNOWN),
+        Place::At(i, k) => transfer_at(memory, i, k, money, amount),
+    }
+}
+
+// A transfer of K or O, for the shipment that its title names.
+pub fn transfer(memory: &mut [u8], title: &[u8], amount: u64) -> Reply
+    ensures { λ r. ⌜ Does (now (memory .entry)) (Transfer (now (title .entry)) amount) (replyOf r) (now (memory .exit)) ⌝ }
+{
+    if !is_sound(memory) {
+        return Reply::Refused(refusals::UNSOUND);
+    }
+    let read = read_title(title);
+    let verdict = read.verdict;
+    if !is_passed(verdict) {
+        return Reply::Refused(epe::refusals::TITLE);
+    }
+    if !is_between(1, Amount::SUM_CAP, amount) {
+        return Reply::Refused(refusals::TRANSFER_AMOUNT);
+    }
+    let name = read.name;
+    let money = read.money;
+    transfer_to(memory, name, money, amount)
+}
+
+// Go-ahead (OBS): a Waiting shipment with faults may be paired.
+pub fn go_ahead(memory: &mut [u8], ident: Ident) -> Reply
+    ensures { λ r. ⌜ Does (now (memory .entry)) (On ident GoAhead) (replyOf r) (now (memory .exit)) ⌝ }
+{
+    match place_called(memory, ident) {
+        Place::Unsound => Reply::Refused(refusals::UNSOUND),
+        Place::Unknown => Reply::Refused(refusals::UNKNOWN),
+        Place::At(i, k) => go_ahead_at(memory, i, k),
+    }
+}
+
+// Pair: a Waiting shipment is Paired when both needs are covered.
+pub fn pair(memory: &mut [u8], ident: Ident) -> Pairing
+    ensures { λ r. ⌜ Does (now (memory .entry)) (On ident Pair) (pairingOf r) (now (memory .exit)) ⌝ }
+{
+    match place_called(memory, ident) {
+        Place::Unsound => Pairing::Refused(refusals::UNSOUND),
+        Place::Unknown => Pairing::Refused(refusals::UNKNOWN),
+        Place::At(i, k) => pair_at(memory, i, k),
+    }
+}
+
+// Close (WYC or ODR): a Waiting shipment is Closed.
+pub fn close(memory: &mut [u8], ident: Ident) -> Reply
+    ensures { λ r. ⌜ Does (now (memory .entry)) (On ident Close) (replyOf r) (now (memory .exit)) ⌝ }
+{
+    match place_called(memory, ident) {
+        Place::Unsound => Reply::Refused(refusals::UNSOUND),
+        Place::Unknown => Reply::Refused(refusals::UNKNOWN),
+        Place::At(i, k) => close_at(memory, i, k),
+    }
+}
+
+// Does a deed with an order.
+fn handle(memory: &mut [u8], ident: Ident, deed: Deed, number: u64) -> Handling
+    ensures { λ r. ⌜ Does (now (memory .entry)) (On ident (OnOrder deed number)) (handlingOf deed r) (now (memory .exit)) ⌝ }
+{
+    match place_called(memory, ident) {
+        Place::Unsound => Handling::Refused(refusals::UNSOUND),
+        Place::Unknown => Handling::Refused(refusals::UNKNOWN),
+        Place::At(i, k) => handle_at(memory, i, k, deed, number),
+    }
+}
+
+// Post: an Open order is Posted, and its fee earned.
+pub fn post(memory: &mut [u8], ident: Ident, number: u64) -> Posting
+    ensures { λ r. ⌜ Does (now (memory .entry)) (On ident (OnOrder Post number)) (postingOf r) (now (memory .exit)) ⌝ }
+{
+    match handle(memory, ident, Deed::Post, number) {
+        Handling::Handled(fee, _) => Posting::Earned(fee),
+        Handling::Refused(number) => Posting::Refused(number),
+    }
+}
+
+// Pay: a Posted order is Paid, and its amount has left.
+pub fn pay(memory: &mut [u8], ident: Ident, number: u64) -> Payment
+    ensures { λ r. ⌜ Does (now (memory .entry)) (On ident (OnOrder Pay number)) (paymentOf r) (now (memory .exit)) ⌝ }
+{
+    match handle(memory, ident, Deed::Pay, number) {
+        Handling::Handled(_, amount) => Payment::Paid(amount),
+        Handling::Refused(number) => Payment::Refused(number),
+    }
+}
+
+// Undelivered: a Posted order's amount waits.
+pub fn mark_undelivered(memory: &mut [u8], ident: Ident, number: u64) -> Reply
+    ensures { λ r. ⌜ Does (now (memory .entry)) (On ident (OnOrder MarkUndelivered number)) (replyOf r) (now (memory .exit)) ⌝ }
+{
+    match handle(memory, ident, Deed::MarkUndelivered, number) {
+        Handling::Handled(_, _) => Reply::Done,
+        Handling::Refused(number) => Reply::Refused(number),
+    }
+}
+
+// Withdraw: an Open order's amount and fee wait.
+pub fn withdraw(memory: &mut [u8], ident: Ident, number: u64) -> Reply
+    ensures { λ r. ⌜ Does (now (memory .entry)) (On ident (OnOrder Withdraw number)) (replyOf r) (now (memory .exit)) ⌝ }
+{
+    match handle(memory, ident, Deed::Withdraw, number) {
+        Handling::Handled(_, _) => Reply::Done,
+        Handling::Refused(number) => Reply::Refused(number),
+    }
+}
+
+// Returns by a route, from the shipment at a place.
+fn return_by_at(memory: &mut [u8], i: usize, k: usize, route: Route, money: Money) -> Returning
+    requires { ⌜ Sits (now memory) i k ⌝ }
+    ensures { λ r. ⌜ ActAt (now (memory .entry)) i k (acted (Return route money)) (returningOf money r) (now (memory .exit)) ⌝ }
+{
+    match route {
+        Route::Zwr => surplus_at(memory, i, k, money),
+        Route::Opr => return_at(memory, i, k, Route::Opr, money),
+        Route::Zpr => return_at(memory, i, k, Route::Zpr, money),
+        Route::Zzr => return_at(memory, i, k, Route::Zzr, money),
+    }
+}
+
+// Return: what is free (ZWR), or waits in Faulty (OPR), Undelivered (ZPR) or Withdrawn (ZZR) orders, goes back.
+pub fn return_money(memory: &mut [u8], ident: Ident, route: Route, money: Money) -> Returning
+    ensures { λ r. ⌜ Does (now (memory .entry)) (On ident (Return route money)) (returningOf money r) (now (memory .exit)) ⌝ }
+{
+    match place_called(memory, ident) {
+        Place::Unsound => Returning::Refused(refusals::UNSOUND),
+        Place::Unknown => Returning::Refused(refusals::UNKNOWN),
+        Place::At(i, k) => return_by_at(memory, i, k, route, money),
+    }
+}

@@ -1,0 +1,124 @@
+// What a call does to a shipment as a whole: a transfer, a go-ahead, pairing, closing.
+use crate::answer::Pairing;
+use crate::answer::Reply;
+use crate::refusals;
+use memory::head::accepted;
+use memory::head::has_go_ahead;
+use memory::head::head_bytes;
+use memory::head::is_waiting;
+use memory::head::orders;
+use memory::head::store_accepted;
+use memory::head::store_go_ahead;
+use memory::head::store_stage;
+use model::Stage;
+use money::Amount;
+use money::Fee;
+use money::Money;
+use sound::shipment::fees;
+use sound::tally::Tally;
+use sound::tally::has_faulty;
+use sound::tally::tally_rows;
+ghost use mathlib.Core.Path.{_≡_};
+ghost use mathlib.Core.Bool.{not, _||_};
+ghost use Prim.Native.Nat.{_-_, _≤_};
+ghost use lib.Dec.{ltb};
+ghost use lib.ListN.{length};
+ghost use Rattle.money.specs.Money.{sumCap};
+ghost use Rattle.model.specs.Calls.{transferred, goneAhead, paired, closed};
+ghost use Rattle.memory.specs.Heads.{goAheadIn};
+ghost use Rattle.sound.specs.Tally.{faultyIn};
+ghost use Rattle.book.specs.Answers.{replyOf, pairingOf};
+ghost use Rattle.book.specs.Place.{Sits, ActAt};
+
+// Takes a transfer to the shipment at a place.
+pub fn transfer_at(memory: &mut [u8], i: usize, k: usize, money: Money, amount: u64) -> Reply
+    requires { ⌜ Sits (now memory) i k × (amount ≤ sumCap) ⌝ }
+    ensures { λ r. ⌜ ActAt (now (memory .entry)) i k (transferred money amount) (replyOf r) (now (memory .exit)) ⌝ }
+{
+    let total = accepted(head_bytes(memory, i), money) + amount;
+    if Amount::SUM_CAP < total {
+        return Reply::Refused(refusals::TOTAL_ACCEPTED);
+    }
+    store_accepted(memory, i, money, total);
+    Reply::Done
+}
+
+// Closes the shipment at a place.
+pub fn close_at(memory: &mut [u8], i: usize, k: usize) -> Reply
+    requires { ⌜ Sits (now memory) i k ⌝ }
+    ensures { λ r. ⌜ ActAt (now (memory .entry)) i k closed (replyOf r) (now (memory .exit)) ⌝ }
+{
+    if !is_waiting(head_bytes(memory, i)) {
+        return Reply::Refused(refusals::NOT_WAITING);
+    }
+    store_stage(memory, i, Stage::Closed);
+    Reply::Done
+}
+
+// Takes a go-ahead (OBS) for the shipment at a place.
+pub fn go_ahead_at(memory: &mut [u8], i: usize, k: usize) -> Reply
+    requires { ⌜ Sits (now memory) i k ⌝ }
+    ensures { λ r. ⌜ ActAt (now (memory .entry)) i k goneAhead (replyOf r) (now (memory .exit)) ⌝ }
+{
+    let head = head_bytes(memory, i);
+    if !is_waiting(head) {
+        return Reply::Refused(refusals::NOT_WAITING);
+    }
+    let tally = tally_rows(memory, k, orders(head) as usize);
+    if !has_faulty(tally) {
+        return Reply::Refused(refusals::NO_FAULTS);
+    }
+    if has_go_ahead(head) {
+        return Reply::Refused(refusals::SECOND_GO_AHEAD);
+    }
+    store_go_ahead(memory, i);
+    Reply::Done
+}
+
+// Has the shipment no faults, or a go-ahead?
+fn may_pair(head: &[u8], tally: Tally) -> bool
+    requires { ⌜ length (now head) ≡ 64 ⌝ }
+    ensures { λ r. ⌜ r ≡ (not (faultyIn tally) || goAheadIn (now (head .entry))) ⌝ }
+{
+    !has_faulty(tally) || has_go_ahead(head)
+}
+
+// What is missing of a need.
+fn missing(need: u64, accepted: u64) -> u64
+    ensures { λ r. ⌜ r ≡ need - accepted ⌝ }
+{
+    if need <= accepted {
+        return 0;
+    }
+    need - accepted
+}
+
+// Is anything missing?
+fn is_short(amount: u64, fee: u64) -> bool
+    ensures { λ r. ⌜ r ≡ (ltb 0 amount || ltb 0 fee) ⌝ }
+{
+    0 < amount || 0 < fee
+}
+
+// Pairs the shipment at a place.
+pub fn pair_at(memory: &mut [u8], i: usize, k: usize) -> Pairing
+    requires { ⌜ Sits (now memory) i k ⌝ }
+    ensures { λ r. ⌜ ActAt (now (memory .entry)) i k paired (pairingOf r) (now (memory .exit)) ⌝ }
+{
+    let head = head_bytes(memory, i);
+    if !is_waiting(head) {
+        return Pairing::Refused(refusals::NOT_WAITING);
+    }
+    let n = orders(head);
+    let tally = tally_rows(memory, k, n as usize);
+    if !may_pair(head, tally) {
+        return Pairing::Refused(refusals::FAULTS);
+    }
+    let amount = missing(tally.amounts, accepted(head, Money::K));
+    let fee = missing(fees(head, n), accepted(head, Money::O));
+    if is_short(amount, fee) {
+        return Pairing::Short(Amount(amount), Fee(fee));
+    }
+    store_stage(memory, i, Stage::Paired);
+    Pairing::Paired
+}
