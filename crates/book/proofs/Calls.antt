@@ -58,7 +58,7 @@ sits is {m} {i} {k} e =
     record { enough = whole .enough; few = omega arith; room = omega arith; sound = place .is-sound (whole .shipments) }
 
 -- memory that is no sound book
-pub does-no-book : {m : List ℕ} {call : Call} → unreadable call ≡ Refused 10 → soundIn m ≡ false → Does m call (Refused 10) m
+pub does-no-book : {m : List ℕ} {call : Call} {answer : Answer} → unreadable call ≡ answer → soundIn m ≡ false → Does m call answer m
 unfolding readBook
 does-no-book unread unsound = record {
   unsound = λ read. sym unread;
@@ -70,7 +70,7 @@ does-no-book unread unsound = record {
 }
 
 -- a sound book, and after it the sound book that the step leaves
-does-step : {m m′ : List ℕ} {call : Call} {answer : Answer} → soundIn m ≡ true → soundIn m′ ≡ true
+pub does-step : {m m′ : List ℕ} {call : Call} {answer : Answer} → soundIn m ≡ true → soundIn m′ ≡ true
     → step (bookIn m) call ≡ record { book = bookIn m′; answer = answer }
     → (isRefusal answer ≡ true → m′ ≡ m) → ((j : ℕ) → size ≤ j → getD m′ j 0 ≡ getD m j 0) → length m′ ≡ length m → Does m call answer m′
 unfolding readBook
@@ -83,7 +83,7 @@ does-step {m} before after stepped refused behind as-long = record {
   as-long = as-long;
 }
 
-stays : {m : List ℕ} {call : Call} {number : ℕ} → soundIn m ≡ true → step (bookIn m) call ≡ stay (Refused number) (bookIn m)
+pub stays : {m : List ℕ} {call : Call} {number : ℕ} → soundIn m ≡ true → step (bookIn m) call ≡ stay (Refused number) (bookIn m)
     → Does m call (Refused number) m
 stays h stepped = does-step h h stepped (λ refusal. refl) (λ j far. refl) refl
 

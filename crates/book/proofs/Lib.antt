@@ -15,3 +15,7 @@ pub mod PairingActs
 pub mod SurplusActs
 pub mod Seeking
 pub mod Making
+pub mod Appending
+pub mod Knowing
+pub mod Entering
+pub mod IntakeActs

@@ -1,11 +1,13 @@
 -- What each answer of the code says, as document 01's book answers.
 use Rattle.money.specs.declared.Money.{Money}
 use Rattle.money.specs.declared.Money.the-variants.{K, O}
-use Rattle.model.specs.Calls.{Answer, Refused, Done, IsPaired, Short, FeeEarned, AmountPaid, Returned}
+use Rattle.model.specs.Calls.{Answer, Refused, Done, Accepted, IsPaired, Short, FeeEarned, AmountPaid, Returned}
 use Rattle.model.specs.declared.Deed.{Deed}
 use Rattle.model.specs.declared.Deed.the-variants.{Post, Pay, MarkUndelivered, Withdraw}
 use Rattle.book.specs.declared.answer.Reply.{Reply}
 use Rattle.book.specs.declared.answer.Reply.the-variants as reply
+use Rattle.book.specs.declared.answer.Acceptance.{Acceptance}
+use Rattle.book.specs.declared.answer.Acceptance.the-variants as acceptance
 use Rattle.book.specs.declared.answer.Pairing.{Pairing}
 use Rattle.book.specs.declared.answer.Pairing.the-variants as pairing
 use Rattle.book.specs.declared.answer.Posting.{Posting}
@@ -20,6 +22,10 @@ use Rattle.book.specs.declared.order.Handling.the-variants as handling
 abbrev pub replyOf : Reply → Answer
 replyOf reply.Done = Done
 replyOf (reply.Refused number) = Refused number
+
+abbrev pub acceptanceOf : Acceptance → Answer
+acceptanceOf (acceptance.Accepted orders faulty) = Accepted orders faulty
+acceptanceOf (acceptance.Refused number) = Refused number
 
 abbrev pub pairingOf : Pairing → Answer
 pairingOf pairing.Paired = IsPaired

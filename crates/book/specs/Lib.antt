@@ -2,3 +2,4 @@ pub mod Does
 pub mod Answers
 pub mod Place
 pub mod Waiting
+pub mod Entering

@@ -8,6 +8,12 @@ pub enum Reply {
     Refused(u64),
 }
 
+// A file accepted, with the number of its orders and of the faulty ones.
+pub enum Acceptance {
+    Accepted(u64, u64),
+    Refused(u64),
+}
+
 // Paired, or what is missing of either money.
 pub enum Pairing {
     Paired,

@@ -1,5 +1,6 @@
-// The settlement book in lent memory: every call of document 01 but intake and the sheet.
+// The settlement book in lent memory: every call of document 01 but the sheet.
 pub mod answer;
+mod enter;
 mod order;
 mod place;
 pub mod refusals;
@@ -7,11 +8,13 @@ mod route;
 mod shipment;
 mod surplus;
 
+use crate::answer::Acceptance;
 use crate::answer::Pairing;
 use crate::answer::Payment;
 use crate::answer::Posting;
 use crate::answer::Reply;
 use crate::answer::Returning;
+use crate::enter::take_file;
 use crate::order::Handling;
 use crate::order::handle_at;
 use crate::place::Place;
@@ -26,6 +29,8 @@ use crate::surplus::surplus_at;
 use epe::ident::Ident;
 use epe::name::Name;
 use epe::name::read_title;
+use epe::profile::Profile;
+use epe::profile::profile_fits;
 use epe::verdict::is_passed;
 use memory::SIZE;
 use memory::shipments;
@@ -40,9 +45,9 @@ ghost use mathlib.Core.Path.{_≡_};
 ghost use mathlib.Core.Bool.{true};
 ghost use Prim.Native.Nat.{_≤_};
 ghost use Rattle.money.specs.Money.{sumCap};
-ghost use Rattle.model.specs.Calls.{GoAhead, Pair, Close, OnOrder, Return, Transfer, On, transferred, acted};
+ghost use Rattle.model.specs.Calls.{Intake, GoAhead, Pair, Close, OnOrder, Return, Transfer, On, transferred, acted};
 ghost use Rattle.model.specs.declared.Deed.the-variants.{Post, Pay, MarkUndelivered, Withdraw};
-ghost use Rattle.book.specs.Answers.{replyOf, pairingOf, postingOf, paymentOf, returningOf, handlingOf};
+ghost use Rattle.book.specs.Answers.{replyOf, acceptanceOf, pairingOf, postingOf, paymentOf, returningOf, handlingOf};
 ghost use Rattle.memory.specs.Read.{soundIn};
 ghost use Rattle.book.specs.Does.{Does, MakesEmpty};
 ghost use Rattle.book.specs.Place.{namedIn, Sits, ActAt, DoesSought};
@@ -56,6 +61,19 @@ pub fn make_empty(memory: &mut [u8]) -> Reply
     }
     store_shipments(memory, 0);
     Reply::Done
+}
+
+// Takes in an order file: it is judged before the first byte of the book is written.
+pub fn intake(memory: &mut [u8], profile: Profile, name: &[u8], file: &[u8]) -> Acceptance
+    ensures { λ r. ⌜ Does (now (memory .entry)) (Intake profile (now (name .entry)) (now (file .entry))) (acceptanceOf r) (now (memory .exit)) ⌝ }
+{
+    if !profile_fits(profile) {
+        return Acceptance::Refused(epe::refusals::PROFILE);
+    }
+    if !is_sound(memory) {
+        return Acceptance::Refused(refusals::UNREADABLE);
+    }
+    take_file(memory, profile, name, file)
 }
 
 // A transfer to the shipment of a name, in a sound book.

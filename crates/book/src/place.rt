@@ -21,7 +21,7 @@ pub enum Place {
 }
 
 // The shipment of an identifier, among n.
-fn find_called(memory: &[u8], ident: Ident, n: usize) -> Place
+pub fn find_called(memory: &[u8], ident: Ident, n: usize) -> Place
     requires { ⌜ (n ≤ 32) × (size ≤ length (now memory)) ⌝ }
     ensures { λ r. ⌜ r ≡ placeFrom (calledIn ident) (now (memory .entry)) 0 0 n ⌝ }
 {

@@ -41,3 +41,15 @@ pub const NOTHING_TO_RETURN: u64 = 23;
 
 // Not Waiting?
 pub const STILL_WAITING: u64 = 24;
+
+// Is the memory of an intake long enough, and a sound book?
+pub const UNREADABLE: u64 = 900;
+
+// Identifier not yet in the book?
+pub const KNOWN: u64 = 101;
+
+// Fewer than 32 shipments in the book?
+pub const SHIPMENTS: u64 = 903;
+
+// Its orders fit with those present in 2,048 rows?
+pub const ROWS: u64 = 904;

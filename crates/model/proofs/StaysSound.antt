@@ -113,7 +113,7 @@ module _ (is : Shipment → Bool) (does : Shipment → Outcome) (keeps : (s : Sh
       })
 
 -- a name whose file opened is in form
-opened-in-form : (name file : List ℕ) → opening name file ≡ Passed → nameInForm (nameOf name) ≡ true
+pub opened-in-form : (name file : List ℕ) → opening name file ≡ Passed → nameInForm (nameOf name) ≡ true
 unfolding opening openingQuestions
 opened-in-form name file h =
     let behind = fixedQuestions (header file) ++ repeatedQuestions name (header file) in

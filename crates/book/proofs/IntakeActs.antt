@@ -1,0 +1,239 @@
+-- An intake's questions of the book, and what it does where all are answered yes.
+-- Assumes nothing.
+use mathlib.Core.Path.{_≡_, refl, sym, ap, _∙_}
+use mathlib.Core.Bool.{Bool, true, false, cond, false≢true}
+use mathlib.Core.List.{List, [], _∷_}
+use Prim.Native.Nat.{ℕ, zero, suc, _+_, _-_, _≤_, _<_, _^_}
+use native.Mathlib.Omega.{arith}
+use borrow.Author.Tests.{leb-true, le-leb, lt-leb, le-ltb, lt-ltb}
+use lib.Dec.{leb, ltb}
+use lib.ListN.{length, getD}
+use Rattle.text.proofs.Branches.{and-left, and-right, either-way}
+use Rattle.money.specs.Money.{orderCap}
+use Rattle.epe.specs.Name.{nameOf, nameInForm}
+use Rattle.epe.specs.Profile.{feesFit, profileFits}
+use Rattle.epe.specs.Opening.{opening, openingOf}
+use Rattle.epe.specs.Contents.{contents, orders, faultyCount, judgedOf}
+use Rattle.epe.specs.declared.file.Opening.{Opening}
+use Rattle.epe.specs.declared.file.Judged.{Judged}
+use Rattle.epe.specs.declared.file.Judged.the-variants as judged
+use Rattle.epe.specs.declared.name.Name.{Name}
+use Rattle.epe.specs.declared.profile.Profile.{Profile}
+use Rattle.epe.specs.declared.verdict.Verdict.{Verdict}
+use Rattle.epe.specs.declared.verdict.Verdict.the-variants.{Passed, Refused as No}
+use Rattle.epe.proofs.AcceptedAsStated.{accepted-as-stated}
+use Rattle.model.specs.Shipment.{Shipment}
+use Rattle.model.specs.Calls.{Call, Intake, Answer, Refused, Accepted}
+use Rattle.model.specs.Book.{Book, Step, stay, inquire, unlessRefused, isUnknown, rowsIn, entered, takenIn, step}
+use Rattle.model.specs.Sound.{sound}
+use Rattle.model.proofs.SoundParts.{halves}
+use Rattle.model.proofs.StaysSound.{stays-sound, opened-in-form}
+use Rattle.memory.specs.Layout.{size}
+use Rattle.memory.specs.Read.{shipmentsFrom, shipmentsIn, bookIn, soundIn}
+use Rattle.sound.proofs.ReadLaws.{shipments-many, sound-parts}
+use Rattle.book.specs.Does.{Does}
+use Rattle.book.specs.Entering.{newShipment, enteredIn, Fits, Opened, Counted, ShipmentEntered, DoesEnter}
+use Rattle.book.proofs.Calls.{does-no-book, does-step, stays}
+
+-- a fee of the profile
+fee-fits : (fees : List ℕ) (kind : ℕ) → feesFit fees ≡ true → getD fees kind 0 ≤ orderCap
+unfolding feesFit
+fee-fits [] kind h = omega arith
+fee-fits (fee ∷ fees) zero h = leb-true fee orderCap (and-left (leb fee orderCap) (feesFit fees) h)
+fee-fits (fee ∷ fees) (suc kind) h = fee-fits fees kind (and-right (leb fee orderCap) (feesFit fees) h)
+
+pub fee-below : (profile : Profile) (kind : ℕ) → profileFits profile ≡ true → getD (profile .fees) kind 0 < 2 ^ 32
+unfolding profileFits
+fee-below profile kind h = omega (arith, fee-fits (profile .fees) kind (search halves))
+
+pub kind-below : (name : Name) → nameInForm name ≡ true → name .kind ≤ 4
+unfolding nameInForm
+kind-below name h = leb-true (name .kind) 4 (search halves)
+
+-- a question of the book
+inquire-yes : (t : Bool) (number : ℕ) (book : Book) (next : Step) → t ≡ true → inquire t number book next ≡ next
+unfolding inquire
+inquire-yes t number book next h = rw h
+
+inquire-no : (t : Bool) (number : ℕ) (book : Book) (next : Step) → t ≡ false → inquire t number book next ≡ stay (Refused number) book
+unfolding inquire
+inquire-no t number book next h = rw h
+
+-- a file that passed its questions, for a book of i shipments
+module _ (m : List ℕ) (i : ℕ) (name : Name) (fee : ℕ) (file : List ℕ) (opened : Opened m i name fee) where
+  abbrev new : Shipment
+  new = newShipment name fee (orders file)
+
+  book-length : length (bookIn m) ≡ i
+  unfolding bookIn
+  book-length = shipments-many m 0 0 (shipmentsIn m) ∙ sym (opened .last)
+
+  pub no-shipment-left : 32 ≤ i → DoesEnter Passed new (orders file) m (Refused 903) m
+  unfolding unlessRefused
+  no-shipment-left full = record {
+    by-call = λ call stepped.
+        stays (opened .sound) (stepped ∙ inquire-no _ 903 _ _ (le-ltb (length (bookIn m)) 32 (omega (arith, book-length))));
+  }
+
+  module _ (few : i < 32) {k : ℕ} (is-from : k ≡ rowsIn (shipmentsFrom m 0 0 i)) where
+    from-is : k ≡ rowsIn (bookIn m)
+    unfolding bookIn
+    from-is = is-from ∙ ap (λ n. rowsIn (shipmentsFrom m 0 0 n)) (opened .last)
+
+    pub from-within : k ≤ 2_048
+    from-within = omega (arith, from-is, sound-parts m (opened .sound) .rows)
+
+    few-enough : ltb (length (bookIn m)) 32 ≡ true
+    few-enough = lt-ltb (length (bookIn m)) 32 (omega (arith, book-length))
+
+    module _ {n faulty : ℕ} (counted : Counted n faulty file) where
+      pub no-row-left : 2_048 - k < n → DoesEnter Passed new (orders file) m (Refused 904) m
+      unfolding unlessRefused
+      no-row-left full = record {
+        by-call = λ call stepped.
+            stays (opened .sound)
+            (stepped
+            ∙ inquire-yes _ 903 _ _ few-enough
+            ∙ inquire-no _ 904 _ _ (lt-leb (rowsIn (bookIn m) + length (orders file)) 2048 (omega (arith, from-is, counted .all, from-within))));
+      }
+
+      pub fits-behind : n ≤ 2_048 - k → Fits m i k name fee n file
+      fits-behind room = record {
+        enough = sound-parts m (opened .sound) .enough;
+        last = opened .last;
+        few = few;
+        from = from-is;
+        room = omega (arith, from-within);
+        all = counted .all;
+        in-range = counted .in-range;
+        in-form = opened .in-form;
+        fee-fits = opened .fee-fits;
+      }
+
+      pub entered-behind : {m′ : List ℕ} → n ≤ 2_048 - k → ShipmentEntered new m m′ → DoesEnter Passed new (orders file) m (Accepted n faulty) m′
+      unfolding unlessRefused soundIn
+      entered-behind {m′} room done = record {
+        by-call = λ call stepped.
+            let parts = sound-parts m (opened .sound) in
+            let taken : step (bookIn m) call ≡ record { book = bookIn m′; answer = Accepted n faulty }
+            = stepped
+            ∙ inquire-yes _ 903 _ _ few-enough
+            ∙ inquire-yes _ 904 _ _ (le-leb (rowsIn (bookIn m) + length (orders file)) 2048 (omega (arith, from-is, counted .all, from-within)))
+            ∙ (λ t. record { book = sym (done .book) t; answer = Accepted (sym (counted .all) t) (sym (counted .faulty-ones) t) }) in
+            let enough = le-leb size (length m′) (rw (done .as-long) (parts .enough)) in
+            let book : sound (bookIn m′) ≡ true = rw taken at (stays-sound .keeps (bookIn m) call (parts .book)) in
+            does-step (opened .sound) (rw (enough, done .flags (parts .flags), book)) taken (λ refusal. absurd (false≢true refusal)) (done .behind) (done .as-long);
+      }
+
+-- what the contents come to
+module _ (m : List ℕ) (i : ℕ) (profile : Profile) (name : Name) (file : List ℕ) (fits : profileFits profile ≡ true) (is-sound : soundIn m ≡ true)
+    (last : i ≡ shipmentsIn m) (in-form : nameInForm name ≡ true) {fee : ℕ} (is-fee : fee ≡ getD (profile .fees) (name .kind) 0) where
+  pub opened : Opened m i name fee
+  opened = record { sound = is-sound; last = last; in-form = in-form; fee-fits = omega (arith, is-fee, fee-below profile (name .kind) fits) }
+
+  passed-or-not : (verdict : Verdict) (n faulty : ℕ) → judgedOf verdict (orders file) ≡ judged.Accepted n faulty
+      → (verdict ≡ Passed) × ((n ≡ length (orders file)) × (faulty ≡ faultyCount (orders file)))
+  unfolding judgedOf
+  passed-or-not Passed n faulty h = (refl, (cc, cc))
+  passed-or-not (No number) n faulty h = let never : _≡_ {A = ℕ} 0 1 = cc in absurd (omega arith)
+
+  refused-with : (verdict : Verdict) (number : ℕ) → judgedOf verdict (orders file) ≡ judged.Refused number → verdict ≡ No number
+  unfolding judgedOf
+  refused-with Passed number h = let never : _≡_ {A = ℕ} 0 1 = cc in absurd (omega arith)
+  refused-with (No n) number h = cc
+
+  module _ {result : Judged} (is-result : result ≡ judgedOf (contents profile file) (orders file)) where
+    pub contents-refused : {number : ℕ} → result ≡ judged.Refused number
+        → DoesEnter (contents profile file) (entered profile name (orders file)) (orders file) m (Refused number) m
+    unfolding unlessRefused
+    contents-refused {number} refused = record {
+      by-call = λ call stepped.
+          let verdict = refused-with (contents profile file) number (sym is-result ∙ refused) in
+          stays is-sound (stepped ∙ ap (λ v. unlessRefused v (bookIn m) (enteredIn (entered profile name (orders file)) (orders file) (bookIn m))) verdict);
+    }
+
+    module _ {n faulty : ℕ} (accepted : result ≡ judged.Accepted n faulty) where
+      passed : (contents profile file ≡ Passed) × ((n ≡ length (orders file)) × (faulty ≡ faultyCount (orders file)))
+      passed = passed-or-not (contents profile file) n faulty (sym is-result ∙ accepted)
+
+      pub counted : Counted n faulty file
+      counted = record {
+        all = passed .1 .0;
+        faulty-ones = passed .1 .1;
+        in-range = accepted-as-stated profile file (passed .0) .in-range;
+      }
+
+      pub contents-accepted : {answer : Answer} {m′ : List ℕ} → DoesEnter Passed (newShipment name fee (orders file)) (orders file) m answer m′
+          → DoesEnter (contents profile file) (entered profile name (orders file)) (orders file) m answer m′
+      unfolding entered
+      contents-accepted enters = rw (passed .0, ← is-fee) enters
+
+-- the questions before the contents
+module _ (m : List ℕ) (profile : Profile) (name file : List ℕ) where
+  abbrev call : Call
+  call = Intake profile name file
+
+  -- "Profile within the ranges above? 905"
+  profile-no : profileFits profile ≡ false → step (bookIn m) call ≡ stay (Refused 905) (bookIn m)
+  unfolding step takenIn inquire
+  profile-no unfit = rw unfit
+
+  pub profile-refused : profileFits profile ≡ false → Does m call (Refused 905) m
+  profile-refused unfit =
+      either-way (soundIn m) (λ held. stays held (profile-no unfit)) (λ unsound. does-no-book (ap (λ t. Refused (cond t 900 905)) unfit) unsound)
+
+  module _ (fits : profileFits profile ≡ true) where
+    pub memory-refused : soundIn m ≡ false → Does m call (Refused 900) m
+    memory-refused unsound = does-no-book (ap (λ t. Refused (cond t 900 905)) fits) unsound
+
+    module _ (held : soundIn m ≡ true) where
+      pub opening-refused : {number : ℕ} → opening name file ≡ No number → Does m call (Refused number) m
+      unfolding step takenIn inquire unlessRefused
+      opening-refused refused = stays held (rw (fits, refused))
+
+      module _ (passed : opening name file ≡ Passed) where
+        -- "Identifier not yet in the book? 101"
+        pub known-refused : isUnknown (nameOf name .ident) (bookIn m) ≡ false → Does m call (Refused 101) m
+        unfolding step takenIn inquire unlessRefused
+        known-refused known = stays held (rw (fits, passed, known))
+
+        pub contents-next : isUnknown (nameOf name .ident) (bookIn m) ≡ true
+            → step (bookIn m) call
+            ≡ unlessRefused (contents profile file) (bookIn m) (enteredIn (entered profile (nameOf name) (orders file)) (orders file) (bookIn m))
+        unfolding step takenIn inquire unlessRefused
+        contents-next unknown = rw (fits, passed, unknown)
+
+    -- as code has the opening
+    module _ (held : soundIn m ≡ true) {opened-file : Opening} (is-opened : opened-file ≡ openingOf name file) where
+      verdict-is : opened-file .verdict ≡ opening name file
+      unfolding openingOf
+      verdict-is = ap (λ (o : Opening). o .verdict) is-opened
+
+      name-is : opened-file .name ≡ nameOf name
+      unfolding openingOf
+      name-is = ap (λ (o : Opening). o .name) is-opened
+
+      pub not-opened : {number : ℕ} → opened-file .verdict ≡ No number → Does m call (Refused number) m
+      not-opened refused = opening-refused held (sym verdict-is ∙ refused)
+
+      module _ (passed : opened-file .verdict ≡ Passed) where
+        pub name-in-form : nameInForm (opened-file .name) ≡ true
+        name-in-form = ap nameInForm name-is ∙ opened-in-form name file (sym verdict-is ∙ passed)
+
+        module _ {i : ℕ} (last : i ≡ shipmentsIn m) {unknown : Bool}
+            (is-unknown : unknown ≡ isUnknown (opened-file .name .ident) (shipmentsFrom m 0 0 i)) where
+          unknown-test : isUnknown (nameOf name .ident) (bookIn m) ≡ unknown
+          unfolding bookIn
+          unknown-test =
+              (λ t. isUnknown (sym name-is t .ident) (shipmentsFrom m 0 0 (sym last t))) ∙ sym is-unknown
+
+          pub known-at : unknown ≡ false → Does m call (Refused 101) m
+          known-at known = known-refused held (sym verdict-is ∙ passed) (unknown-test ∙ known)
+
+          pub taken-at : unknown ≡ true → {answer : Answer} {m′ : List ℕ}
+              → DoesEnter (contents profile file) (entered profile (opened-file .name) (orders file)) (orders file) m answer m′ → Does m call answer m′
+          taken-at new enters =
+              enters .by-call call
+              (contents-next held (sym verdict-is ∙ passed) (unknown-test ∙ new)
+              ∙ ap (λ (n : Name). unlessRefused (contents profile file) (bookIn m) (enteredIn (entered profile n (orders file)) (orders file) (bookIn m)))
+              (sym name-is))

@@ -1,0 +1,86 @@
+-- A shipment entered behind the last. Only the contracts below `intake` need these.
+use mathlib.Core.Path.{_≡_}
+use mathlib.Core.Bool.{true, false}
+use mathlib.Core.List.{List, [], _∷_, _++_, map}
+use Prim.Native.Nat.{ℕ, _+_, _-_, _≤_, _<_, _^_}
+use lib.Dec.{leb, ltb}
+use lib.ListN.{length, getD}
+use Rattle.epe.specs.Name.{nameInForm}
+use Rattle.epe.specs.Contents.{orders, faultyCount}
+use Rattle.epe.specs.Accepted.{EachInRange}
+use Rattle.epe.specs.declared.name.Name.{Name}
+use Rattle.epe.specs.declared.record.Order.{Order}
+use Rattle.epe.specs.declared.verdict.Verdict.{Verdict}
+use Rattle.model.specs.Shipment.{Shipment}
+use Rattle.model.specs.Calls.{Call, Answer, Accepted}
+use Rattle.model.specs.Book.{Book, Step, stay, inquire, unlessRefused, rowsIn, enteredRow, step}
+use Rattle.model.specs.declared.Row.{Row}
+use Rattle.model.specs.declared.Stage.the-variants.{Waiting}
+use Rattle.memory.specs.Layout.{size}
+use Rattle.memory.specs.Read.{shipmentsIn, flagsFrom, bookIn, soundIn}
+use Rattle.book.specs.Does.{Does}
+
+-- The row of the order that a file has for it, where the first is row k.
+abbrev pub noneTaken : Order
+noneTaken = record { amount = record { 0 = 0 }; fault = 0 }
+
+abbrev pub rowFor : ℕ → List Order → ℕ → Row
+rowFor k orders r = enteredRow (getD orders (r - k) noneTaken)
+
+-- A shipment just entered, with its fee.
+abbrev pub newShipment : Name → ℕ → List Order → Shipment
+newShipment name fee orders = record {
+  name = name;
+  fee = fee;
+  stage = Waiting;
+  goAhead = false;
+  acceptedK = 0;
+  acceptedO = 0;
+  returnedK = 0;
+  returnedO = 0;
+  rows = map enteredRow orders;
+}
+
+-- There is room for a shipment as the i-th, its rows from the k-th on, and all that is to be entered is in its form.
+pub record Fits (m : List ℕ) (i k : ℕ) (name : Name) (fee n : ℕ) (file : List ℕ) : Type 0 where
+  pub enough : size ≤ length m
+  pub last : i ≡ shipmentsIn m
+  pub few : i < 32
+  pub from : k ≡ rowsIn (bookIn m)
+  pub room : k + n ≤ 2_048
+  pub all : n ≡ length (orders file)
+  pub in-range : EachInRange (orders file)
+  pub in-form : nameInForm name ≡ true
+  pub fee-fits : fee < 2 ^ 32
+
+-- The book then has it behind the last, and the memory behind the book is as it was.
+pub record ShipmentEntered (s : Shipment) (m m′ : List ℕ) : Type 0 where
+  pub book : bookIn m′ ≡ bookIn m ++ (s ∷ [])
+  pub flags : flagsFrom m 0 (shipmentsIn m) ≡ true → flagsFrom m′ 0 (shipmentsIn m′) ≡ true
+  pub behind : (j : ℕ) → size ≤ j → getD m′ j 0 ≡ getD m j 0
+  pub as-long : length m′ ≡ length m
+
+-- "Fewer than 32 shipments in the book? 903. Its orders fit with those present in 2,048 rows? 904", and then it is entered.
+abbrev pub enteredIn : Shipment → List Order → Book → Step
+enteredIn s orders book =
+    inquire (ltb (length book) 32) 903 book
+    (inquire (leb (rowsIn book + length orders) 2048) 904 book
+    (stay (Accepted (length orders) (faultyCount orders)) (book ++ (s ∷ []))))
+
+-- A file for a book of i shipments: the book is sound, and the name and the fee are in form.
+pub record Opened (m : List ℕ) (i : ℕ) (name : Name) (fee : ℕ) : Type 0 where
+  pub sound : soundIn m ≡ true
+  pub last : i ≡ shipmentsIn m
+  pub in-form : nameInForm name ≡ true
+  pub fee-fits : fee < 2 ^ 32
+
+-- Its contents passed: n orders, each in range, so many of them faulty.
+pub record Counted (n faulty : ℕ) (file : List ℕ) : Type 0 where
+  pub all : n ≡ length (orders file)
+  pub faulty-ones : faulty ≡ faultyCount (orders file)
+  pub in-range : EachInRange (orders file)
+
+-- What an intake promises that has come so far: its contents decide, then the room.
+pub record DoesEnter (verdict : Verdict) (s : Shipment) (orders : List Order) (before : List ℕ) (answer : Answer) (after : List ℕ) : Type 0 where
+  pub by-call : (call : Call) → step (bookIn before) call ≡ unlessRefused verdict (bookIn before) (enteredIn s orders (bookIn before))
+      → Does before call answer after

@@ -1,0 +1,152 @@
+// An order file taken in: it is judged whole, then entered behind the last shipment.
+use crate::answer::Acceptance;
+use crate::place::Place;
+use crate::place::find_called;
+use crate::refusals;
+use epe::file::Judged;
+use epe::file::first_order;
+use epe::file::judge_contents;
+use epe::file::open;
+use epe::file::take_order;
+use epe::ident::Ident;
+use epe::name::Name;
+use epe::profile::Profile;
+use epe::verdict::Verdict;
+use memory::enter::enter_head;
+use memory::enter::enter_order;
+use memory::head::head_bytes;
+use memory::head::orders;
+use memory::shipments;
+use memory::store_shipments;
+ghost use mathlib.Core.Path.{_≡_};
+ghost use mathlib.Core.Bool.{true};
+ghost use Prim.Native.Nat.{_+_, _≤_, _<_, _^_};
+ghost use lib.ListN.{length, getD};
+ghost use Rattle.epe.specs.Name.{nameInForm};
+ghost use Rattle.epe.specs.Profile.{profileFits};
+ghost use Rattle.epe.specs.Contents.{contents, orders};
+ghost use Rattle.epe.specs.Accepted.{EachInRange};
+ghost use Rattle.epe.specs.declared.verdict.Verdict.the-variants.{Passed};
+ghost use Rattle.model.specs.Calls.{Intake};
+ghost use Rattle.model.specs.Book.{isUnknown, rowsIn, entered};
+ghost use Rattle.memory.specs.Layout.{size};
+ghost use Rattle.memory.specs.Read.{shipmentsFrom, shipmentsIn, soundIn};
+ghost use Rattle.book.specs.Answers.{acceptanceOf};
+ghost use Rattle.book.specs.Does.{Does};
+ghost use Rattle.book.specs.Place.{RowsStored};
+ghost use Rattle.book.specs.Entering.{rowFor, newShipment, Fits, ShipmentEntered, Opened, Counted, DoesEnter};
+
+// How many rows n shipments have.
+fn rows_of(memory: &[u8], n: usize) -> usize
+    requires { ⌜ (n ≤ 32) × (size ≤ length (now memory)) ⌝ }
+    ensures { λ r. ⌜ r ≡ rowsIn (shipmentsFrom (now (memory .entry)) 0 0 n) ⌝ }
+{
+    let mut i = 0;
+    let mut k = 0;
+    let mut left = n;
+    while 0 < left {
+        k += orders(head_bytes(memory, i)) as usize;
+        i += 1;
+        left -= 1;
+    }
+    k
+}
+
+// Is an identifier of none of n shipments?
+fn is_unknown(memory: &[u8], ident: Ident, n: usize) -> bool
+    requires { ⌜ (n ≤ 32) × (size ≤ length (now memory)) ⌝ }
+    ensures { λ r. ⌜ r ≡ isUnknown ident (shipmentsFrom (now (memory .entry)) 0 0 n) ⌝ }
+{
+    match find_called(memory, ident, n) {
+        Place::Unsound => false,
+        Place::Unknown => true,
+        Place::At(_, _) => false,
+    }
+}
+
+// Enters n orders of a file, in the rows from the k-th on.
+fn enter_orders(memory: &mut [u8], k: usize, n: usize, file: &[u8])
+    requires { ⌜ (k + n ≤ 2_048) × (size ≤ length (now memory)) × (n ≤ length (orders (now file))) × EachInRange (orders (now file)) ⌝ }
+    ensures { λ _. ⌜ RowsStored (rowFor k (orders (now (file .entry)))) k n (now (memory .entry)) (now (memory .exit)) ⌝ }
+{
+    let mut at = first_order(file);
+    for done in 0..n {
+        let taken = take_order(file, at);
+        let order = taken.order;
+        enter_order(memory, k + done, order);
+        at = taken.next;
+    }
+}
+
+// Enters a shipment of n orders as the i-th, its rows from the k-th on.
+fn enter(memory: &mut [u8], i: usize, k: usize, name: Name, fee: u64, n: u64, file: &[u8])
+    requires { ⌜ Fits (now memory) i k name fee n (now file) ⌝ }
+    ensures { λ _. ⌜ ShipmentEntered (newShipment name fee (orders (now (file .entry)))) (now (memory .entry)) (now (memory .exit)) ⌝ }
+{
+    enter_orders(memory, k, n as usize, file);
+    enter_head(memory, i, name, fee, n);
+    store_shipments(memory, i + 1);
+}
+
+// Enters a shipment of n orders behind the i that there are, if there is room.
+fn enter_behind(
+    memory: &mut [u8],
+    i: usize,
+    name: Name,
+    fee: u64,
+    n: u64,
+    faulty: u64,
+    file: &[u8],
+) -> Acceptance
+    requires { ⌜ Opened (now memory) i name fee × Counted n faulty (now file) ⌝ }
+    ensures { λ r. ⌜ DoesEnter Passed (newShipment name fee (orders (now (file .entry)))) (orders (now (file .entry))) (now (memory .entry)) (acceptanceOf r) (now (memory .exit)) ⌝ }
+{
+    if 32 <= i {
+        return Acceptance::Refused(refusals::SHIPMENTS);
+    }
+    let k = rows_of(memory, i);
+    if ((2_048 - k) as u64) < n {
+        return Acceptance::Refused(refusals::ROWS);
+    }
+    enter(memory, i, k, name, fee, n, file);
+    Acceptance::Accepted(n, faulty)
+}
+
+// The fee of a kind.
+fn fee_of(profile: Profile, kind: u64) -> u64
+    requires { ⌜ (profileFits profile ≡ true) × (kind ≤ 4) ⌝ }
+    ensures { λ r. ⌜ (r ≡ getD (profile .fees) kind 0) × (r < 2 ^ 32) ⌝ }
+{
+    let fees = profile.fees;
+    fees[kind as usize]
+}
+
+// Judges the contents of a file, and enters it behind the i shipments that there are.
+fn take_in(memory: &mut [u8], i: usize, profile: Profile, name: Name, file: &[u8]) -> Acceptance
+    requires { ⌜ (profileFits profile ≡ true) × (soundIn (now memory) ≡ true) × (i ≡ shipmentsIn (now memory)) × (nameInForm name ≡ true) ⌝ }
+    ensures { λ r. ⌜ DoesEnter (contents profile (now (file .entry))) (entered profile name (orders (now (file .entry)))) (orders (now (file .entry))) (now (memory .entry)) (acceptanceOf r) (now (memory .exit)) ⌝ }
+{
+    let fee = fee_of(profile, name.kind);
+    match judge_contents(profile, file) {
+        Judged::Accepted(n, faulty) => enter_behind(memory, i, name, fee, n, faulty, file),
+        Judged::Refused(number) => Acceptance::Refused(number),
+    }
+}
+
+// Takes in an order file into a sound book.
+pub fn take_file(memory: &mut [u8], profile: Profile, name: &[u8], file: &[u8]) -> Acceptance
+    requires { ⌜ (profileFits profile ≡ true) × (soundIn (now memory) ≡ true) ⌝ }
+    ensures { λ r. ⌜ Does (now (memory .entry)) (Intake profile (now (name .entry)) (now (file .entry))) (acceptanceOf r) (now (memory .exit)) ⌝ }
+{
+    let opening = open(name, file);
+    let verdict = opening.verdict;
+    if let Verdict::Refused(number) = verdict {
+        return Acceptance::Refused(number);
+    }
+    let parts = opening.name;
+    let i = shipments(memory);
+    if !is_unknown(memory, parts.ident, i) {
+        return Acceptance::Refused(refusals::KNOWN);
+    }
+    take_in(memory, i, profile, parts, file)
+}
