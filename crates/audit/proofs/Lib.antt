@@ -1,0 +1,2 @@
+pub mod NeverUnread
+pub mod Listing
