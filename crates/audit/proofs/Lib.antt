@@ -1,2 +1,7 @@
 pub mod NeverUnread
 pub mod Listing
+pub mod JournalLaws
+pub mod Playing
+pub mod Turns
+pub mod Endings
+pub mod Examples

@@ -1,1 +1,3 @@
 pub mod Listed
+pub mod Journal
+pub mod Replay

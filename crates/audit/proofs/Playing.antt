@@ -1,0 +1,84 @@
+-- One entry played: its call is the one that its first byte says.
+-- Assumes nothing.
+use mathlib.Core.Path.{_≡_}
+use mathlib.Core.Bool.{true}
+use mathlib.Core.List.{List}
+use Prim.Native.Nat.{ℕ, _≤_}
+use native.Mathlib.Omega.{arith}
+use borrow.Author.Tests.{leb-true, ne-eqb}
+use lib.ListN.{getD}
+use Rattle.money.specs.declared.Money.{Money}
+use Rattle.epe.specs.declared.ident.Ident.{Ident}
+use Rattle.model.specs.Calls.{GoAhead, Pair, Close, OnOrder, Return, Call, Intake, Transfer, On, Answer}
+use Rattle.model.specs.declared.Deed.the-variants.{Post, Pay, MarkUndelivered, Withdraw}
+use Rattle.model.specs.declared.Route.{Route}
+use Rattle.model.proofs.SoundParts.{halves}
+use Rattle.book.specs.Does.{Does}
+use Rattle.audit.specs.declared.told.Told.{Told}
+use Rattle.audit.specs.Journal.{identIn, numberIn, profileIn, routeIn, moneyIn, firstText, secondText, actIn, callIn, entryFits}
+use Rattle.audit.specs.Replay.{toldOf, Plays}
+
+-- a call that was made and told, under the name that the entry gives it
+pub plays : {before after : List ℕ} {call same : Call} {answer : Answer} {told : Told} → call ≡ same → Does before call answer after
+    → told ≡ toldOf answer → Plays before same told after
+plays {answer = answer} is does is-told = record { answer = answer; does = rw is at does; is-told = is-told }
+
+pub plays-same : {before after : List ℕ} {call same : Call} {told : Told} → call ≡ same → Plays before call told after → Plays before same told after
+plays-same is played = rw is at played
+
+-- a whole entry has one of the calls
+pub call-known : (entry : List ℕ) → entryFits entry ≡ true → getD entry 0 0 ≤ 9
+unfolding entryFits
+call-known entry fits = leb-true (getD entry 0 0) 9 (search halves)
+
+-- the call that the first byte says
+module _ (entry : List ℕ) where
+  pub is-intake : getD entry 0 0 ≡ 0 → Intake (profileIn entry) (firstText entry) (secondText entry) ≡ callIn entry
+  unfolding callIn
+  is-intake first = rw first
+
+  pub is-transfer : getD entry 0 0 ≡ 1 → Transfer (firstText entry) (numberIn entry) ≡ callIn entry
+  unfolding callIn
+  is-transfer first = rw first
+
+  pub is-act : 2 ≤ getD entry 0 0 → On (identIn entry) (actIn entry) ≡ callIn entry
+  unfolding callIn
+  is-act more = rw (ne-eqb (getD entry 0 0) 0 (omega arith), ne-eqb (getD entry 0 0) 1 (omega arith))
+
+  module _ {ident : Ident} (ident-is : ident ≡ identIn entry) where
+    pub on-go-ahead : getD entry 0 0 ≡ 2 → On ident GoAhead ≡ On (identIn entry) (actIn entry)
+    unfolding actIn
+    on-go-ahead first = rw (ident-is, first)
+
+    pub on-pair : getD entry 0 0 ≡ 3 → On ident Pair ≡ On (identIn entry) (actIn entry)
+    unfolding actIn
+    on-pair first = rw (ident-is, first)
+
+    pub on-close : getD entry 0 0 ≡ 4 → On ident Close ≡ On (identIn entry) (actIn entry)
+    unfolding actIn
+    on-close first = rw (ident-is, first)
+
+    pub on-return : {route : Route} {money : Money} → route ≡ routeIn entry → money ≡ moneyIn entry → getD entry 0 0 ≡ 9
+        → On ident (Return route money) ≡ On (identIn entry) (actIn entry)
+    unfolding actIn
+    on-return route-is money-is first = rw (ident-is, route-is, money-is, first)
+
+    module _ {number : ℕ} (number-is : number ≡ numberIn entry) where
+      pub on-post : getD entry 0 0 ≡ 5 → On ident (OnOrder Post number) ≡ On (identIn entry) (actIn entry)
+      unfolding actIn
+      on-post first = rw (ident-is, number-is, first)
+
+      pub on-pay : getD entry 0 0 ≡ 6 → On ident (OnOrder Pay number) ≡ On (identIn entry) (actIn entry)
+      unfolding actIn
+      on-pay first = rw (ident-is, number-is, first)
+
+      pub on-undelivered : getD entry 0 0 ≡ 7 → On ident (OnOrder MarkUndelivered number) ≡ On (identIn entry) (actIn entry)
+      unfolding actIn
+      on-undelivered first = rw (ident-is, number-is, first)
+
+      pub on-withdraw : 5 ≤ getD entry 0 0 → getD entry 0 0 ≤ 8 → (getD entry 0 0 ≡ 5 → ⊥) → (getD entry 0 0 ≡ 6 → ⊥) → (getD entry 0 0 ≡ 7 → ⊥)
+          → On ident (OnOrder Withdraw number) ≡ On (identIn entry) (actIn entry)
+      unfolding actIn
+      on-withdraw above below not-post not-pay not-undelivered =
+          let first : getD entry 0 0 ≡ 8 = omega arith in
+          rw (ident-is, number-is, first)

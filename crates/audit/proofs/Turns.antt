@@ -1,0 +1,163 @@
+-- A journal replayed: what holds before the first call, after each, and after the last.
+-- Assumes nothing.
+use mathlib.Core.Path.{_≡_, refl, sym, ap, _∙_}
+use mathlib.Core.Bool.{true}
+use mathlib.Core.List.{List, [], _∷_, _++_, append-nil, append-assoc}
+use Prim.Native.Nat.{ℕ, zero, suc, _+_, _*_, _-_, _≤_, _<_}
+use native.Mathlib.Omega.{arith}
+use lib.Dec.{leb}
+use lib.ListN.{length, take, drop, set, length-append, length-take, length-drop}
+use lib.Seq.{sets-eq, take-at, drop-append-add, drop-drop}
+use Rattle.text.proofs.Branches.{and-left, and-right}
+use Rattle.model.specs.Calls.{Call}
+use Rattle.book.specs.Does.{Does}
+use Rattle.audit.specs.declared.told.Told.{Told}
+use Rattle.audit.specs.Journal.{callIn, entryLength, entryFits, entriesFit, callsFrom, countIn, journalFits, callsIn}
+use Rattle.audit.specs.Listed.{Made, Chain, memoryAt, callsOf}
+use Rattle.audit.specs.Replay.{toldOf, toldAll, tellAt, Plays, Replayed, Replayable}
+use Rattle.audit.proofs.Listing.{listed}
+
+-- one more call behind those made
+chain-more : (start : List ℕ) (made : List Made) (one : Made) → Chain start made
+    → Does (memoryAt start made (length made)) (one .call) (one .answer) (one .memory) → Chain start (made ++ (one ∷ []))
+chain-more start [] one chain does = (does, tt)
+chain-more start (first ∷ later) one chain does = (chain .0, chain-more (first .memory) later one (chain .1) does)
+
+memory-more : (start : List ℕ) (made : List Made) (one : Made)
+    → memoryAt start (made ++ (one ∷ [])) (length (made ++ (one ∷ []))) ≡ one .memory
+memory-more start [] one = refl
+memory-more start (first ∷ later) one = memory-more (first .memory) later one
+
+calls-more : (made : List Made) (one : Made) (left : List Call) → callsOf (made ++ (one ∷ [])) ++ left ≡ callsOf made ++ (one .call ∷ left)
+calls-more [] one left = refl
+calls-more (first ∷ later) one left = ap (λ calls. first .call ∷ calls) (calls-more later one left)
+
+told-more : (made : List Made) (one : Made) (behind : List ℕ)
+    → toldAll (made ++ (one ∷ [])) ++ behind
+    ≡ toldAll made ++ (toldOf (one .answer) .status ∷ toldOf (one .answer) .first ∷ toldOf (one .answer) .second ∷ behind)
+told-more [] one behind = refl
+told-more (first ∷ later) one behind =
+    ap (λ told. toldOf (first .answer) .status ∷ toldOf (first .answer) .first ∷ toldOf (first .answer) .second ∷ told) (told-more later one behind)
+
+told-many : (made : List Made) → length (toldAll made) ≡ 3 * length made
+told-many [] = refl
+told-many (first ∷ later) = omega (arith, told-many later)
+
+-- three stores, one behind the other
+pub tell-three : (table : List ℕ) (i : ℕ) (told : Told) → i + 3 ≤ length table
+    → set (set (set table i (told .status)) (i + 1) (told .first)) (i + 2) (told .second) ≡ tellAt table i told
+tell-three table i told room =
+    let second : i + 1 ≡ suc i = omega arith in
+    let third : i + 2 ≡ suc (suc i) = omega arith in
+    let three = told .status ∷ told .first ∷ told .second ∷ [] in
+    rw (second, third) (sets-eq three table i room ∙ append-assoc (take i table) three (drop (i + 3) table))
+
+-- the table, told one call further
+behind : (told table : List ℕ) (i : ℕ) → length told ≡ i → drop (i + 3) (told ++ drop i table) ≡ drop (i + 3) table
+behind told table i many = rw (← many) (drop-append-add told (drop (length told) table) 3 ∙ drop-drop 3 (length told) table)
+
+tell-next : (told table : List ℕ) (i : ℕ) (three : Told) → length told ≡ i
+    → tellAt (told ++ drop i table) i three ≡ told ++ (three .status ∷ three .first ∷ three .second ∷ drop (i + 3) table)
+tell-next told table i three many = rw (take-at told (drop i table) i many, behind told table i many)
+
+tell-long : (table : List ℕ) (i : ℕ) (three : Told) → i + 3 ≤ length table → length (tellAt table i three) ≡ length table
+tell-long table i three room = simp (length-append, length-take, length-drop) (omega arith)
+
+-- So far: the calls made, the entries left from a place on, and the table told up to i.
+pub record SoFar (start journal table memory answers : List ℕ) (at i left : ℕ) : Type 0 where
+  pub made : List Made
+  pub chain : Chain start made
+  pub ends : memory ≡ memoryAt start made (length made)
+  pub calls : callsOf made ++ callsFrom left (drop at journal) ≡ callsIn journal
+  pub fits : entriesFit left (drop at journal) ≡ true
+  pub place : i ≡ 3 * length made
+  pub told : answers ≡ toldAll made ++ drop i table
+  pub room : i + 3 * left ≤ length table
+  pub memory-as-long : length memory ≡ length start
+  pub answers-as-long : length answers ≡ length table
+
+module _ {start journal table : List ℕ} {n : ℕ} (may : Replayable start journal table n) where
+  pub starts : SoFar start journal table start table 8 0 n
+  unfolding callsIn journalFits
+  starts = record {
+    made = [];
+    chain = tt;
+    ends = refl;
+    calls = rw (may .counted);
+    fits = rw (may .counted) (and-right (leb 8 (length journal)) (entriesFit (countIn journal) (drop 8 journal)) (may .encoded));
+    place = refl;
+    told = refl;
+    room = omega (arith, may .enough);
+    memory-as-long = refl;
+    answers-as-long = refl;
+  }
+
+  pub all-made : {memory answers : List ℕ} {at i left : ℕ} → SoFar start journal table memory answers at i left → left ≤ 0
+      → Replayed start journal table memory answers
+  unfolding callsFrom
+  all-made {at = at} {left = left} so-far done =
+      let none : left ≡ 0 = omega arith in
+      let whole : callsOf (so-far .made) ++ callsFrom 0 (drop at journal) ≡ callsIn journal = rw none at (so-far .calls) in
+      record {
+        made = so-far .made;
+        calls = sym (append-nil (callsOf (so-far .made))) ∙ whole;
+        chain = so-far .chain;
+        listed = listed start (so-far .made) (may .empty) (so-far .chain);
+        memory = so-far .ends;
+        answers = rw (so-far .place) at (so-far .told);
+      }
+
+module _ {start journal table memory answers : List ℕ} {at i : ℕ} where
+  entry-fits : (left : ℕ) → SoFar start journal table memory answers at i left → 0 < left → entryFits (drop at journal) ≡ true
+  unfolding entriesFit
+  entry-fits zero so-far more = absurd (omega arith)
+  entry-fits (suc n) so-far more =
+      and-left (entryFits (drop at journal)) (entriesFit n (drop (entryLength (drop at journal)) (drop at journal))) (so-far .fits)
+
+  room : {left : ℕ} → SoFar start journal table memory answers at i left → 0 < left → i + 3 ≤ length answers
+  room so-far more = omega (arith, so-far .room, so-far .answers-as-long)
+
+  turn : {told : Told} {memory′ : List ℕ} (left : ℕ) → SoFar start journal table memory answers at i left → 0 < left
+      → Plays memory (callIn (drop at journal)) told memory′
+      → SoFar start journal table memory′ (tellAt answers i told) (at + entryLength (drop at journal)) (i + 3) (left - 1)
+  unfolding entriesFit callsFrom
+  turn zero so-far more played = absurd (omega arith)
+  turn {told} {memory′} (suc n) so-far more played =
+      let entry = drop at journal in
+      let one : Made = record { call = callIn entry; answer = played .answer; memory = memory′ } in
+      let less : suc n - 1 ≡ n = omega arith in
+      let next : drop (entryLength entry) entry ≡ drop (at + entryLength entry) journal = drop-drop (entryLength entry) at journal in
+      let many : length (toldAll (so-far .made)) ≡ i = told-many (so-far .made) ∙ sym (so-far .place) in
+      record {
+        made = so-far .made ++ (one ∷ []);
+        chain = chain-more start (so-far .made) one (so-far .chain) (rw (so-far .ends) at (played .does));
+        ends = sym (memory-more start (so-far .made) one);
+        calls = rw less (calls-more (so-far .made) one (callsFrom n (drop (at + entryLength entry) journal)) ∙ rw next at (so-far .calls));
+        fits = rw (less, ← next) (and-right (entryFits entry) (entriesFit n (drop (entryLength entry) entry)) (so-far .fits));
+        place = omega (arith, so-far .place, length-append (so-far .made) (one ∷ []));
+        told =
+            ap (λ answers. tellAt answers i told) (so-far .told)
+            ∙ tell-next (toldAll (so-far .made)) table i told many
+            ∙ ap (λ (told : Told). toldAll (so-far .made) ++ (told .status ∷ told .first ∷ told .second ∷ drop (i + 3) table)) (played .is-told)
+            ∙ sym (told-more (so-far .made) one (drop (i + 3) table));
+        room = omega (arith, so-far .room);
+        memory-as-long = played .does .as-long ∙ so-far .memory-as-long;
+        answers-as-long = tell-long answers i told (room so-far more) ∙ so-far .answers-as-long;
+      }
+
+  module _ {left : ℕ} (so-far : SoFar start journal table memory answers at i left) (more : 0 < left) where
+    pub room-left : i + 3 ≤ length answers
+    room-left = room so-far more
+
+    -- the entry that the code reads, how long it is, and the table after its answer is told
+    module _ {entry : List ℕ} (entry-is : entry ≡ drop at journal) where
+      pub entry-left : entryFits entry ≡ true
+      entry-left = rw entry-is (entry-fits left so-far more)
+
+      pub next-fits : {long : ℕ} → long ≡ entryLength entry → long ≤ length entry → at + long ≤ length journal
+      next-fits long-is fits = omega (arith, long-is, fits, ap length entry-is, length-drop at journal)
+
+      pub turns : {told : Told} {memory′ answers′ : List ℕ} {long : ℕ} → Plays memory (callIn entry) told memory′
+          → answers′ ≡ tellAt answers i told → long ≡ entryLength entry
+          → SoFar start journal table memory′ answers′ (at + long) (i + 3) (left - 1)
+      turns played told-is long-is = rw (told-is, long-is, entry-is) (turn left so-far more (rw entry-is at played))

@@ -1,0 +1,40 @@
+-- `audit::play::play_transfer` makes a transfer of the text and the number of the entry.
+use Rattle.audit.proofs.Playing.{plays}
+use Rattle.audit.proofs.JournalLaws.{fields-there}
+use Rattle.model.specs.Calls.{Transfer}
+use native.Mathlib.Omega.{arith}
+use borrow.Author.Needs.{needs}
+use Rattle.audit.proofs.play.play_transfer.Statement.{statement}
+use Rattle.audit.proofs.play.play_transfer.Tie as tie
+
+first-text-requires : tie.Need-first-text-requires
+first-text-requires c κs = search needs
+
+read-eight-requires : tie.Need-read-eight-requires
+read-eight-requires c κs = let long = fields-there _ (c .before .before .before .before .pre) in omega arith
+
+transfer-requires : tie.Need-transfer-requires
+transfer-requires c κs = search needs
+
+tell-reply-requires : tie.Need-tell-reply-requires
+tell-reply-requires c κs = search needs
+
+same-length : tie.Need-same-length
+same-length c = search needs
+
+returns : tie.Need-returns
+returns c =
+    let made = c .before .before .before in
+    let number = made .before in
+    plays (λ i. Transfer (number .before .first-text .ensures i) (number .read-eight .ensures i)) (made .transfer .ensures) (c .tell-reply .ensures)
+
+pub play-transfer-spec : {M : Type 1} → statement M
+play-transfer-spec =
+    tie.close
+    (tie.spec
+    first-text-requires
+    read-eight-requires
+    transfer-requires
+    tell-reply-requires
+    same-length
+    returns)

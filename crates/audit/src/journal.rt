@@ -1,0 +1,156 @@
+// A journal of calls, read in place.
+use calendar::date::Date;
+use epe::ident::Ident;
+use epe::profile::Profile;
+use memory::number::read_eight;
+use model::Route;
+use money::Money;
+use text::bytes::first;
+use text::bytes::rest;
+ghost use mathlib.Core.Path.{_≡_};
+ghost use mathlib.Core.Bool.{true};
+ghost use Prim.Native.Nat.{_≤_};
+ghost use lib.Dec.{leb};
+ghost use lib.ListN.{length, take, drop};
+ghost use Rattle.audit.specs.Journal.{identIn, profileIn, routeIn, moneyIn, firstText, secondText, entryLength, entryFits, entriesFit, journalFits};
+
+// The 17 bytes of the identifier.
+fn ident_bytes(entry: &[u8]) -> [u8; 17]
+    requires { ⌜ 101 ≤ length (now entry) ⌝ }
+    ensures { λ r. ⌜ r ≡ take 17 (drop 4 (now (entry .entry))) ⌝ }
+{
+    let mut bytes = [0u8; 17];
+    let mut i = 0;
+    while i < 17 {
+        bytes[i] = entry[4 + i];
+        i += 1;
+    }
+    bytes
+}
+
+// The identifier of an entry.
+pub fn ident_in(entry: &[u8]) -> Ident
+    requires { ⌜ 101 ≤ length (now entry) ⌝ }
+    ensures { λ r. ⌜ r ≡ identIn (now (entry .entry)) ⌝ }
+{
+    let bytes = ident_bytes(entry);
+    Ident {
+        bytes,
+        len: entry[3] as usize,
+    }
+}
+
+// The five fees of the profile.
+fn fees_in(entry: &[u8]) -> [u64; 5]
+    requires { ⌜ 101 ≤ length (now entry) ⌝ }
+    ensures { λ r. ⌜ r ≡ profileIn (now (entry .entry)) .fees ⌝ }
+{
+    [
+        read_eight(entry, 37),
+        read_eight(entry, 45),
+        read_eight(entry, 53),
+        read_eight(entry, 61),
+        read_eight(entry, 69),
+    ]
+}
+
+// The profile of an entry.
+pub fn profile_in(entry: &[u8]) -> Profile
+    requires { ⌜ 101 ≤ length (now entry) ⌝ }
+    ensures { λ r. ⌜ r ≡ profileIn (now (entry .entry)) ⌝ }
+{
+    let fees = fees_in(entry);
+    Profile {
+        today: Date(read_eight(entry, 29)),
+        fees,
+        fields: read_eight(entry, 77),
+    }
+}
+
+// The route of an entry.
+pub fn route_in(entry: &[u8]) -> Route
+    requires { ⌜ 101 ≤ length (now entry) ⌝ }
+    ensures { λ r. ⌜ r ≡ routeIn (now (entry .entry)) ⌝ }
+{
+    match entry[1] {
+        0 => Route::Zwr,
+        1 => Route::Opr,
+        2 => Route::Zpr,
+        _ => Route::Zzr,
+    }
+}
+
+// The money of an entry.
+pub fn money_in(entry: &[u8]) -> Money
+    requires { ⌜ 101 ≤ length (now entry) ⌝ }
+    ensures { λ r. ⌜ r ≡ moneyIn (now (entry .entry)) ⌝ }
+{
+    if entry[2] == 0 { Money::K } else { Money::O }
+}
+
+// The name or the title of an entry.
+pub fn first_text(entry: &[u8]) -> &[u8]
+    requires { ⌜ entryFits (now entry) ≡ true ⌝ }
+    ensures { λ r. ⌜ now r ≡ firstText (now (entry .entry)) ⌝ }
+{
+    first(rest(entry, 101), read_eight(entry, 85) as usize)
+}
+
+// The file of an entry.
+pub fn second_text(entry: &[u8]) -> &[u8]
+    requires { ⌜ entryFits (now entry) ≡ true ⌝ }
+    ensures { λ r. ⌜ now r ≡ secondText (now (entry .entry)) ⌝ }
+{
+    let at = 101 + read_eight(entry, 85) as usize;
+    first(rest(entry, at), read_eight(entry, 93) as usize)
+}
+
+// Are both texts there? Each length may be any number, so that no sum of them is made.
+fn are_texts_there(entry: &[u8]) -> bool
+    requires { ⌜ 101 ≤ length (now entry) ⌝ }
+    ensures { λ r. ⌜ r ≡ leb (entryLength (now (entry .entry))) (length (now (entry .entry))) ⌝ }
+{
+    let room = (entry.len() - 101) as u64;
+    let first = read_eight(entry, 85);
+    first <= room && read_eight(entry, 93) <= room - first
+}
+
+// Is an entry whole?
+pub fn does_entry_fit(entry: &[u8]) -> bool
+    ensures { λ r. ⌜ r ≡ entryFits (now (entry .entry)) ⌝ }
+{
+    101 <= entry.len()
+        && (entry[0] <= 9 && (entry[1] <= 3 && (entry[2] <= 1 && are_texts_there(entry))))
+}
+
+// How long an entry is.
+pub fn entry_length(entry: &[u8]) -> usize
+    requires { ⌜ entryFits (now entry) ≡ true ⌝ }
+    ensures { λ r. ⌜ (r ≡ entryLength (now (entry .entry))) × (r ≤ length (now (entry .entry))) ⌝ }
+{
+    101 + (read_eight(entry, 85) as usize + read_eight(entry, 93) as usize)
+}
+
+// Are the bytes n whole entries, and nothing else?
+fn do_entries_fit(bytes: &[u8], n: u64) -> bool
+    ensures { λ r. ⌜ r ≡ entriesFit n (now (bytes .entry)) ⌝ }
+{
+    let mut at = 0;
+    let mut left = n;
+    while 0 < left {
+        let entry = rest(bytes, at);
+        if !does_entry_fit(entry) {
+            return false;
+        }
+        at += entry_length(entry);
+        left -= 1;
+    }
+    at == bytes.len()
+}
+
+// Is the journal as many whole entries as it says, and nothing else?
+pub fn does_journal_fit(journal: &[u8]) -> bool
+    ensures { λ r. ⌜ r ≡ journalFits (now (journal .entry)) ⌝ }
+{
+    8 <= journal.len() && do_entries_fit(rest(journal, 8), read_eight(journal, 0))
+}

@@ -1,0 +1,187 @@
+// One call of a journal, made in lent memory.
+use crate::journal::first_text;
+use crate::journal::ident_in;
+use crate::journal::money_in;
+use crate::journal::profile_in;
+use crate::journal::route_in;
+use crate::journal::second_text;
+use crate::told::Told;
+use crate::told::done;
+use crate::told::refused;
+use crate::told::short;
+use book::answer::Acceptance;
+use book::answer::Pairing;
+use book::answer::Payment;
+use book::answer::Posting;
+use book::answer::Reply;
+use book::answer::Returning;
+use book::close;
+use book::go_ahead;
+use book::intake;
+use book::mark_undelivered;
+use book::pair;
+use book::pay;
+use book::post;
+use book::return_money;
+use book::transfer;
+use book::withdraw;
+use epe::ident::Ident;
+use memory::number::read_eight;
+use money::Money;
+ghost use mathlib.Core.Path.{_≡_};
+ghost use mathlib.Core.Bool.{true};
+ghost use Prim.Native.Nat.{_≤_, _<_};
+ghost use lib.ListN.{length, getD};
+ghost use Rattle.money.specs.declared.Money.the-variants.{K, O};
+ghost use Rattle.model.specs.Calls.{Intake, Transfer, On};
+ghost use Rattle.book.specs.Answers.{replyOf, acceptanceOf, pairingOf, postingOf, paymentOf, returningOf};
+ghost use Rattle.audit.specs.Journal.{identIn, numberIn, profileIn, firstText, secondText, actIn, callIn, entryFits};
+ghost use Rattle.audit.specs.Replay.{toldOf, Plays};
+
+// What a reply says, in three numbers.
+fn tell_reply(reply: Reply) -> Told
+    ensures { λ r. ⌜ r ≡ toldOf (replyOf reply) ⌝ }
+{
+    match reply {
+        Reply::Done => done(0, 0),
+        Reply::Refused(number) => refused(number),
+    }
+}
+
+// What an acceptance says.
+fn tell_acceptance(acceptance: Acceptance) -> Told
+    ensures { λ r. ⌜ r ≡ toldOf (acceptanceOf acceptance) ⌝ }
+{
+    match acceptance {
+        Acceptance::Accepted(orders, faulty) => done(orders, faulty),
+        Acceptance::Refused(number) => refused(number),
+    }
+}
+
+// What a pairing says.
+fn tell_pairing(pairing: Pairing) -> Told
+    ensures { λ r. ⌜ r ≡ toldOf (pairingOf pairing) ⌝ }
+{
+    match pairing {
+        Pairing::Paired => done(0, 0),
+        Pairing::Short(amount, fee) => short(amount.0, fee.0),
+        Pairing::Refused(number) => refused(number),
+    }
+}
+
+// What a posting says.
+fn tell_posting(posting: Posting) -> Told
+    ensures { λ r. ⌜ r ≡ toldOf (postingOf posting) ⌝ }
+{
+    match posting {
+        Posting::Earned(fee) => done(fee.0, 0),
+        Posting::Refused(number) => refused(number),
+    }
+}
+
+// What a payment says.
+fn tell_payment(payment: Payment) -> Told
+    ensures { λ r. ⌜ r ≡ toldOf (paymentOf payment) ⌝ }
+{
+    match payment {
+        Payment::Paid(amount) => done(amount.0, 0),
+        Payment::Refused(number) => refused(number),
+    }
+}
+
+// What a return of amounts says.
+fn tell_amounts(returning: Returning) -> Told
+    ensures { λ r. ⌜ r ≡ toldOf (returningOf K returning) ⌝ }
+{
+    match returning {
+        Returning::Amounts(amount, count) => done(amount.0, count),
+        Returning::Fees(_, _) => done(0, 0),
+        Returning::Refused(number) => refused(number),
+    }
+}
+
+// What a return of fees says.
+fn tell_fees(returning: Returning) -> Told
+    ensures { λ r. ⌜ r ≡ toldOf (returningOf O returning) ⌝ }
+{
+    match returning {
+        Returning::Amounts(_, _) => done(0, 0),
+        Returning::Fees(fee, count) => done(fee.0, count),
+        Returning::Refused(number) => refused(number),
+    }
+}
+
+// What a return of either money says.
+fn tell_returning(money: Money, returning: Returning) -> Told
+    ensures { λ r. ⌜ r ≡ toldOf (returningOf money returning) ⌝ }
+{
+    match money {
+        Money::K => tell_amounts(returning),
+        Money::O => tell_fees(returning),
+    }
+}
+
+// Makes an entry's intake.
+fn play_intake(memory: &mut [u8], entry: &[u8]) -> Told
+    requires { ⌜ entryFits (now entry) ≡ true ⌝ }
+    ensures { λ r. ⌜ Plays (now (memory .entry)) (Intake (profileIn (now (entry .entry))) (firstText (now (entry .entry))) (secondText (now (entry .entry)))) r (now (memory .exit)) ⌝ }
+{
+    tell_acceptance(intake(
+        memory,
+        profile_in(entry),
+        first_text(entry),
+        second_text(entry),
+    ))
+}
+
+// Makes an entry's transfer.
+fn play_transfer(memory: &mut [u8], entry: &[u8]) -> Told
+    requires { ⌜ entryFits (now entry) ≡ true ⌝ }
+    ensures { λ r. ⌜ Plays (now (memory .entry)) (Transfer (firstText (now (entry .entry))) (numberIn (now (entry .entry)))) r (now (memory .exit)) ⌝ }
+{
+    tell_reply(transfer(memory, first_text(entry), read_eight(entry, 21)))
+}
+
+// Does what an entry says with an order.
+fn play_on_order(memory: &mut [u8], entry: &[u8], ident: Ident) -> Told
+    requires { ⌜ (101 ≤ length (now entry)) × (ident ≡ identIn (now entry)) × (5 ≤ getD (now entry) 0 0) × (getD (now entry) 0 0 ≤ 8) ⌝ }
+    ensures { λ r. ⌜ Plays (now (memory .entry)) (On (identIn (now (entry .entry))) (actIn (now (entry .entry)))) r (now (memory .exit)) ⌝ }
+{
+    let number = read_eight(entry, 21);
+    match entry[0] {
+        5 => tell_posting(post(memory, ident, number)),
+        6 => tell_payment(pay(memory, ident, number)),
+        7 => tell_reply(mark_undelivered(memory, ident, number)),
+        _ => tell_reply(withdraw(memory, ident, number)),
+    }
+}
+
+// Does what an entry says with a shipment.
+fn play_act(memory: &mut [u8], entry: &[u8]) -> Told
+    requires { ⌜ (101 ≤ length (now entry)) × (2 ≤ getD (now entry) 0 0) × (getD (now entry) 0 0 ≤ 9) ⌝ }
+    ensures { λ r. ⌜ Plays (now (memory .entry)) (On (identIn (now (entry .entry))) (actIn (now (entry .entry)))) r (now (memory .exit)) ⌝ }
+{
+    let ident = ident_in(entry);
+    match entry[0] {
+        2 => tell_reply(go_ahead(memory, ident)),
+        3 => tell_pairing(pair(memory, ident)),
+        4 => tell_reply(close(memory, ident)),
+        9 => {
+            let money = money_in(entry);
+            tell_returning(money, return_money(memory, ident, route_in(entry), money))
+        }
+        _ => play_on_order(memory, entry, ident),
+    }
+}
+
+// Makes the call of an entry.
+pub fn play(memory: &mut [u8], entry: &[u8]) -> Told
+    requires { ⌜ entryFits (now entry) ≡ true ⌝ }
+    ensures { λ r. ⌜ Plays (now (memory .entry)) (callIn (now (entry .entry))) r (now (memory .exit)) ⌝ }
+{
+    match entry[0] {
+        0 => play_intake(memory, entry),
+        1 => play_transfer(memory, entry),
+        _ => play_act(memory, entry),
+    }
+}
