@@ -25,7 +25,7 @@ use Rattle.book.proofs.Changing.{none-found, first-acted, flags-kept}
 
 -- what a place tells of the memory in which it was looked for
 module _ (is : List ℕ → Bool) (m : List ℕ) where
-  unsound-place : placeIn is m ≡ Unsound → soundIn m ≡ false
+  pub unsound-place : placeIn is m ≡ Unsound → soundIn m ≡ false
   unfolding placeIn
   unsound-place e = either-way (soundIn m) (λ h. absurd (never-unsound is m 0 0 (shipmentsIn m) (rw h at e))) (λ h. h)
 
@@ -41,10 +41,10 @@ module _ (is : List ℕ → Bool) (m : List ℕ) where
   unfolding placeIn
   looked-for held count looked same = rw (held, ← count, ← looked) same
 
-  unknown-place : placeIn is m ≡ Unknown → (soundIn m ≡ true) × (placeFrom is m 0 0 (shipmentsIn m) ≡ Unknown)
+  pub unknown-place : placeIn is m ≡ Unknown → (soundIn m ≡ true) × (placeFrom is m 0 0 (shipmentsIn m) ≡ Unknown)
   unknown-place = sound-place Unknown (λ e. let never : _≡_ {A = ℕ} 0 1 = cc in omega arith)
 
-  at-place : (i k : ℕ) → placeIn is m ≡ At i k → (soundIn m ≡ true) × Found is m i k 0 0 (shipmentsIn m)
+  pub at-place : (i k : ℕ) → placeIn is m ≡ At i k → (soundIn m ≡ true) × Found is m i k 0 0 (shipmentsIn m)
   at-place i k e =
       let placed = sound-place (At i k) (λ e. let never : _≡_ {A = ℕ} 0 1 = cc in omega arith) e in
       (placed .0, found is m i k 0 0 (shipmentsIn m) (placed .1))

@@ -13,6 +13,7 @@ pub mod ShipmentActs
 pub mod Needs
 pub mod PairingActs
 pub mod SurplusActs
+pub mod NoReturns
 pub mod Seeking
 pub mod Making
 pub mod Appending

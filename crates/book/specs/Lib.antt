@@ -1,4 +1,5 @@
 pub mod Does
+pub mod NoReturn
 pub mod Answers
 pub mod Place
 pub mod Waiting

@@ -33,6 +33,8 @@ use epe::profile::Profile;
 use epe::profile::profile_fits;
 use epe::verdict::is_passed;
 use memory::SIZE;
+use memory::head::head_bytes;
+use memory::head::is_paired;
 use memory::shipments;
 use memory::store_shipments;
 use model::Deed;
@@ -48,8 +50,9 @@ ghost use Rattle.money.specs.Money.{sumCap};
 ghost use Rattle.model.specs.Calls.{Intake, GoAhead, Pair, Close, OnOrder, Return, Transfer, On, transferred, acted};
 ghost use Rattle.model.specs.declared.Deed.the-variants.{Post, Pay, MarkUndelivered, Withdraw};
 ghost use Rattle.book.specs.Answers.{replyOf, acceptanceOf, pairingOf, postingOf, paymentOf, returningOf, handlingOf};
-ghost use Rattle.memory.specs.Read.{soundIn};
+ghost use Rattle.memory.specs.Read.{soundIn, readBook};
 ghost use Rattle.book.specs.Does.{Does, MakesEmpty};
+ghost use Rattle.book.specs.NoReturn.{noReturn};
 ghost use Rattle.book.specs.Place.{namedIn, Sits, ActAt, DoesSought};
 
 // Makes an empty book in memory that is long enough, whatever it holds.
@@ -213,5 +216,22 @@ pub fn return_money(memory: &mut [u8], ident: Ident, route: Route, money: Money)
         Place::Unsound => Returning::Refused(refusals::UNSOUND),
         Place::Unknown => Returning::Refused(refusals::UNKNOWN),
         Place::At(i, k) => return_by_at(memory, i, k, route, money),
+    }
+}
+
+// The refusal of a return by a route, or of a money, that there is not: its last question is that of ZPR with O.
+pub fn refuse_return(memory: &[u8], ident: Ident) -> u64
+    ensures { λ r. ⌜ r ≡ noReturn ident (readBook (now (memory .entry))) ⌝ }
+{
+    match place_called(memory, ident) {
+        Place::Unsound => refusals::UNSOUND,
+        Place::Unknown => refusals::UNKNOWN,
+        Place::At(i, _) => {
+            if is_paired(head_bytes(memory, i)) {
+                refusals::UNDELIVERED_FEE
+            } else {
+                refusals::NOT_PAIRED
+            }
+        }
     }
 }
