@@ -39,7 +39,7 @@ ghost use Rattle.audit.specs.Journal.{identIn, numberIn, profileIn, firs
 ghost use Rattle.audit.specs.Replay.{toldOf, Plays};
 
 // What a reply says, in three numbers.
-fn tell_reply(reply: Reply) -> Told
+pub fn tell_reply(reply: Reply) -> Told
     ensures { λ r. ⌜ r ≡ toldOf (replyOf reply) ⌝ }
 {
     match reply {
@@ -49,7 +49,7 @@ fn tell_reply(reply: Reply) -> Told
 }
 
 // What an acceptance says.
-fn tell_acceptance(acceptance: Acceptance) -> Told
+pub fn tell_acceptance(acceptance: Acceptance) -> Told
     ensures { λ r. ⌜ r ≡ toldOf (acceptanceOf acceptance) ⌝ }
 {
     match acceptance {
@@ -59,7 +59,7 @@ fn tell_acceptance(acceptance: Acceptance) -> Told
 }
 
 // What a pairing says.
-fn tell_pairing(pairing: Pairing) -> Told
+pub fn tell_pairing(pairing: Pairing) -> Told
     ensures { λ r. ⌜ r ≡ toldOf (pairingOf pairing) ⌝ }
 {
     match pairing {
@@ -70,7 +70,7 @@ fn tell_pairing(pairing: Pairing) -> Told
 }
 
 // What a posting says.
-fn tell_posting(posting: Posting) -> Told
+pub fn tell_posting(posting: Posting) -> Told
     ensures { λ r. ⌜ r ≡ toldOf (postingOf posting) ⌝ }
 {
     match posting {
@@ -80,7 +80,7 @@ fn tell_posting(posting: Posting) -> Told
 }
 
 // What a payment says.
-fn tell_payment(payment: Payment) -> Told
+pub fn tell_payment(payment: Payment) -> Told
     ensures { λ r. ⌜ r ≡ toldOf (paymentOf payment) ⌝ }
 {
     match payment {
@@ -90,7 +90,7 @@ fn tell_payment(payment: Payment) -> Told
 }
 
 // What a return of amounts says.
-fn tell_amounts(returning: Returning) -> Told
+pub fn tell_amounts(returning: Returning) -> Told
     ensures { λ r. ⌜ r ≡ toldOf (returningOf K returning) ⌝ }
 {
     match returning {
@@ -101,7 +101,7 @@ fn tell_amounts(returning: Returning) -> Told
 }
 
 // What a return of fees says.
-fn tell_fees(returning: Returning) -> Told
+pub fn tell_fees(returning: Returning) -> Told
     ensures { λ r. ⌜ r ≡ toldOf (returningOf O returning) ⌝ }
 {
     match returning {
@@ -112,7 +112,7 @@ fn tell_fees(returning: Returning) -> Told
 }
 
 // What a return of either money says.
-fn tell_returning(money: Money, returning: Returning) -> Told
+pub fn tell_returning(money: Money, returning: Returning) -> Told
     ensures { λ r. ⌜ r ≡ toldOf (returningOf money returning) ⌝ }
 {
     match money {

@@ -3,6 +3,7 @@ ghost use mathlib.Core.Path.{_≡_};
 ghost use Rattle.audit.specs.Replay.{doneWith, shortBy, refusedWith};
 
 // 0 done, 1 short or 2 refused, and what the answer says.
+#[repr(C)]
 pub struct Told {
     pub status: u64,
     pub first: u64,

@@ -1,0 +1,27 @@
+-- `buntingraft::buntingraft_mark_undelivered` marks an order of the shipment of an identifier.
+use Rattle.buntingraft.proofs.Exporting.{plays-on}
+use borrow.Author.Needs.{needs}
+use Rattle.buntingraft.proofs.buntingraft_mark_undelivered.Statement.{statement}
+use Rattle.buntingraft.proofs.buntingraft_mark_undelivered.Tie as tie
+
+ident-of-requires : tie.Need-ident-of-requires
+ident-of-requires c κs = search needs
+
+mark-undelivered-requires : tie.Need-mark-undelivered-requires
+mark-undelivered-requires c κs = search needs
+
+tell-reply-requires : tie.Need-tell-reply-requires
+tell-reply-requires c κs = search needs
+
+same-length : tie.Need-same-length
+same-length c = search needs
+
+returns : tie.Need-returns
+returns c =
+    let made = c .before .before .before in
+    plays-on (made .before .ident-of .ensures) (made .mark-undelivered .ensures) (c .tell-reply .ensures)
+
+pub buntingraft-mark-undelivered-spec : {M : Type 1} → statement M
+buntingraft-mark-undelivered-spec =
+    tie.close
+    (tie.spec ident-of-requires mark-undelivered-requires tell-reply-requires same-length returns)

@@ -1,0 +1,45 @@
+-- What the exports ensure: the reply is the call's answer in three numbers (`toldOf`), and the memory is as the call's own promise has it (`Does`).
+-- `Plays` says both of a call; making an empty book and a return have a record here.
+use mathlib.Core.Path.{_≡_}
+use mathlib.Core.Bool.{Bool, true, false, cond, _&&_}
+use mathlib.Core.List.{List}
+use Prim.Native.Nat.{ℕ}
+use lib.Dec.{leb, eqb}
+use Rattle.money.specs.declared.Money.{Money}
+use Rattle.money.specs.declared.Money.the-variants.{K, O}
+use Rattle.epe.specs.declared.ident.Ident.{Ident}
+use Rattle.epe.specs.declared.profile.Profile.{Profile}
+use Rattle.model.specs.Calls.{Return, On, Answer}
+use Rattle.model.specs.declared.Route.{Route}
+use Rattle.model.specs.declared.Route.the-variants.{Zwr, Opr, Zpr, Zzr}
+use Rattle.memory.specs.Read.{readBook}
+use Rattle.book.specs.Does.{MakesEmpty}
+use Rattle.book.specs.NoReturn.{noReturn}
+use Rattle.audit.specs.Replay.{toldOf, refusedWith, Plays}
+use Rattle.audit.specs.declared.told.Told.{Told}
+use Rattle.buntingraft.specs.declared.Terms.{Terms}
+
+-- A profile as C has it is the profile of its numbers.
+abbrev pub profileOf : Terms → Profile
+profileOf terms = record { today = record { 0 = terms .today }; fees = terms .fees; fields = terms .fields }
+
+-- An empty book was made, or not, and the answer is told.
+pub record Makes (before : List ℕ) (told : Told) (after : List ℕ) : Type 0 where
+  pub answer : Answer
+  pub makes : MakesEmpty before answer after
+  pub is-told : told ≡ toldOf answer
+
+-- The routes are 0 ZWR, 1 OPR, 2 ZPR, 3 ZZR, the moneys 0 K, 1 O.
+unfoldable pub areKnown : ℕ → ℕ → Bool
+areKnown route money = leb route 3 && leb money 1
+
+unfoldable pub routeOf : ℕ → Route
+routeOf n = cond (eqb n 0) Zwr (cond (eqb n 1) Opr (cond (eqb n 2) Zpr Zzr))
+
+unfoldable pub moneyOf : ℕ → Money
+moneyOf n = cond (eqb n 0) K O
+
+-- A return by a route and of a money that there are is made; any other is refused, and nothing changes.
+pub record Returns (before : List ℕ) (ident : Ident) (route money : ℕ) (told : Told) (after : List ℕ) : Type 0 where
+  pub plays : areKnown route money ≡ true → Plays before (On ident (Return (routeOf route) (moneyOf money))) told after
+  pub refused : areKnown route money ≡ false → (told ≡ refusedWith (noReturn ident (readBook before))) × (after ≡ before)

@@ -1,0 +1,81 @@
+/*
+ * Document 01's worked shipment ZS1, run through libbuntingraft.a from C. A line for each call, with its reply; the number
+ * before a call is its line in document 01's table, and 0 is what comes before it. Fails where a reply is not the table's.
+ */
+#include <inttypes.h>
+#include <stdio.h>
+#include <stdlib.h>
+
+#include "buntingraft.h"
+
+#define NAME "EPEZZS1-201007-A-0"
+
+/* The bytes of a literal and their number. */
+#define BYTES(literal) (const uint8_t *)(literal), sizeof(literal) - 1
+
+#define BOOK book, book_length
+#define ID BYTES("ZS1")
+
+static int replies_wrong = 0;
+
+/* Prints the reply of a call, and holds it to the table's. */
+static void expect(const char *call, uint64_t status, uint64_t first, uint64_t second, struct buntingraft_reply reply) {
+    static const char *const words[] = {"done", "short", "refused"};
+    const char *word = reply.status <= BUNTINGRAFT_REFUSED ? words[reply.status] : "no status";
+    int right = reply.status == status && reply.first == first && reply.second == second;
+    printf("%-24s %-7s %6" PRIu64 " %6" PRIu64 "%s\n", call, word, reply.first, reply.second, right ? "" : "   not the table's");
+    replies_wrong += !right;
+}
+
+/* Runs the shipment in a book that is made empty first. */
+static void run(uint8_t *book, size_t book_length, const uint8_t *file, size_t file_length) {
+    const struct buntingraft_profile profile = {.today = 20201007, .fees = {350, 350, 350, 350, 350}, .fields = 19};
+    const uint64_t done = BUNTINGRAFT_DONE, is_short = BUNTINGRAFT_SHORT, refused = BUNTINGRAFT_REFUSED;
+
+    expect("0. empty book", done, 0, 0, buntingraft_make_empty(BOOK));
+    expect("0. intake", done, 3, 1, buntingraft_intake(BOOK, profile, BYTES(NAME), file, file_length));
+
+    expect("1. transfer of K 17549", done, 0, 0, buntingraft_transfer(BOOK, BYTES(NAME "-K"), 17549));
+    expect("1. transfer of O 1050", done, 0, 0, buntingraft_transfer(BOOK, BYTES(NAME "-O"), 1050));
+    expect("1. pair", refused, 18, 0, buntingraft_pair(BOOK, ID));
+
+    expect("2. go-ahead", done, 0, 0, buntingraft_go_ahead(BOOK, ID));
+    expect("2. pair", is_short, 1, 0, buntingraft_pair(BOOK, ID));
+
+    expect("3. transfer of K 101", done, 0, 0, buntingraft_transfer(BOOK, BYTES(NAME "-K"), 101));
+    expect("3. pair", done, 0, 0, buntingraft_pair(BOOK, ID));
+
+    expect("4. ZWR K", done, 100, 0, buntingraft_return(BOOK, ID, BUNTINGRAFT_ZWR, BUNTINGRAFT_K));
+    expect("4. ZWR K again", refused, 23, 0, buntingraft_return(BOOK, ID, BUNTINGRAFT_ZWR, BUNTINGRAFT_K));
+
+    expect("5. OPR K", done, 5000, 1, buntingraft_return(BOOK, ID, BUNTINGRAFT_OPR, BUNTINGRAFT_K));
+    expect("5. OPR O", done, 350, 1, buntingraft_return(BOOK, ID, BUNTINGRAFT_OPR, BUNTINGRAFT_O));
+
+    expect("6. post 1", done, 350, 0, buntingraft_post(BOOK, ID, 1));
+    expect("6. pay 1", done, 10000, 0, buntingraft_pay(BOOK, ID, 1));
+
+    expect("7. withdraw 3", done, 0, 0, buntingraft_withdraw(BOOK, ID, 3));
+    expect("7. ZZR K", done, 2550, 1, buntingraft_return(BOOK, ID, BUNTINGRAFT_ZZR, BUNTINGRAFT_K));
+    expect("7. ZZR O", done, 350, 1, buntingraft_return(BOOK, ID, BUNTINGRAFT_ZZR, BUNTINGRAFT_O));
+}
+
+int main(void) {
+    static uint8_t file[4096];
+    FILE *source = fopen("crates/demo/data/" NAME, "rb");
+    if (source == NULL) {
+        perror("crates/demo/data/" NAME);
+        return EXIT_FAILURE;
+    }
+    size_t file_length = fread(file, 1, sizeof file, source);
+    fclose(source);
+
+    size_t book_length = buntingraft_book_bytes();
+    uint8_t *book = malloc(book_length);
+    if (book == NULL) {
+        perror("book");
+        return EXIT_FAILURE;
+    }
+    run(book, book_length, file, file_length);
+    free(book);
+    return replies_wrong == 0 ? EXIT_SUCCESS : EXIT_FAILURE;
+}

@@ -1,0 +1,264 @@
+/*
+ * Buntingraft: the settlement book for EPE shipments, as C calls it. Link libbuntingraft.a (x86-64 Linux, System V ABI).
+ *
+ * The insurer sends an order file for a shipment and two bank transfers: one for the orders' amounts, called K, and one for
+ * the contractor's fees, called O. The two are different moneys and are never added. All sums are whole grosze.
+ *
+ * A shipment begins Waiting. When both transfers cover what it needs it is Paired, and its orders can be posted, paid,
+ * marked undelivered or withdrawn; or it is Closed instead, without ever being Paired. It needs, in K, the sum of all its
+ * amounts, and in O, the number of its orders times the fee F: faulty orders count like any other. What is not paid out
+ * goes back to the insurer by a return.
+ *
+ * An order begins Open, or Faulty where its record has a fault (see intake). Open becomes Posted or Withdrawn, and Posted
+ * becomes Paid or Undelivered. What a return can give back of an order is said to wait: both its amount and its fee where it
+ * is Faulty or Withdrawn, its amount alone where it is Undelivered, since the fee was earned when it was posted.
+ *
+ *
+ * What a caller lends
+ *
+ *   book   At least buntingraft_book_bytes() bytes. The whole state of a book is in them: they need no alignment, hold no
+ *          pointer, and may be copied, written to disk and lent again elsewhere. Bytes behind that length are never touched.
+ *          A fresh book is made by buntingraft_make_empty.
+ *   name, file, title, id
+ *          Bytes that are only read, with no terminating zero.
+ *
+ * Each is a pointer and a number of bytes. The pointer is not null, even where the number is 0, and all those bytes can be
+ * read; the book's can be written too. The buffers of one call do not overlap, and nothing else writes to them while it runs.
+ * Nothing is kept when a call returns.
+ *
+ * That is all a caller owes. Every call answers, whatever the bytes and numbers are. The library allocates nothing, has no
+ * state of its own, and takes less than 16 KiB of stack, so calls on different books may run at the same time.
+ *
+ *
+ * What a call answers
+ *
+ * A reply has a status and two numbers. Refused: first is the number of the first question that was answered no, second is 0,
+ * and the book is as it was, byte for byte. Short comes from buntingraft_pair alone, and leaves the book as it was too.
+ *
+ * Questions are asked in the order in which they stand below. The numbers of an intake and those of the other calls are two
+ * sets: 10, 11, 13, 14, 16, 17, 19, 20, 22 and 23 are in both, and mean different things.
+ */
+#ifndef BUNTINGRAFT_H
+#define BUNTINGRAFT_H
+
+#include <stddef.h>
+#include <stdint.h>
+
+#ifdef __cplusplus
+extern "C" {
+#endif
+
+/* A reply's status. */
+enum {
+    BUNTINGRAFT_DONE = 0,
+    BUNTINGRAFT_SHORT = 1,
+    BUNTINGRAFT_REFUSED = 2
+};
+
+struct buntingraft_reply {
+    uint64_t status;
+    uint64_t first;
+    uint64_t second;
+};
+
+/* What an intake goes by. */
+struct buntingraft_profile {
+    uint64_t today;   /* a real date of 2000 to 2099, as the number yyyymmdd: 20201007 */
+    uint64_t fees[5]; /* the fee F of an order, by the shipment's benefit kind 0 to 4: each 0 to 999,999,999 */
+    uint64_t fields;  /* R, the number of fields in a record line: 19 to 32 */
+};
+
+/* The routes of a return. */
+enum {
+    BUNTINGRAFT_ZWR = 0, /* free money: the shipment's transfers, less its need where it is Paired, less what ZWR returned */
+    BUNTINGRAFT_OPR = 1, /* what waits in Faulty orders */
+    BUNTINGRAFT_ZPR = 2, /* what waits in Undelivered orders: amounts alone */
+    BUNTINGRAFT_ZZR = 3  /* what waits in Withdrawn orders */
+};
+
+/* The moneys of a return. */
+enum {
+    BUNTINGRAFT_K = 0, /* amounts */
+    BUNTINGRAFT_O = 1  /* fees */
+};
+
+/* How many bytes a book takes: 18,496. */
+uint64_t buntingraft_book_bytes(void);
+
+/*
+ * Makes an empty book, whatever the memory held.
+ *
+ * Done: 0, 0.
+ *
+ *    10  Is the memory long enough?
+ */
+struct buntingraft_reply buntingraft_make_empty(uint8_t *book, size_t book_length);
+
+/*
+ * Takes in an order file: its shipment is added to the book as Waiting, without money or go-ahead.
+ *
+ * `name` is the file's name without a folder: EPEZ and the shipment's identifier, then the benefit date yymmdd, the payment
+ * kind A or B, and the benefit kind 0 to 4, joined by hyphens, as EPEZZS1-201007-A-0. An identifier is two letters (A-Z, a-z)
+ * and then 1 to 15 letters or digits; case counts. `file` is the whole file: the bytes EF BB BF, then lines of UTF-8 parted by
+ * CR LF, the header first and then one record line to an order, each of fields parted by `|`.
+ *
+ * Done: the number of orders, and how many of them are faulty. At most 32 shipments and 2,048 orders fit in a book.
+ *
+ *   905  Is the profile within its ranges?
+ *   900  Is the book's memory long enough, and a sound book?
+ *     1  Is the file longer than 0 bytes?
+ *    34  Is the byte mark EF BB BF there, and the rest well-formed UTF-8?
+ *     3  Has the name exactly three hyphens?
+ *     7  Does the name start with EPE?
+ *    10  Then Z?
+ *    13  Is the rest of its first part an identifier?
+ *    16  Is its second part six digits, and 20yymmdd a real date?
+ *    19  Is its third part A or B?
+ *    22  Is its fourth part one digit 0 to 4?
+ *     4  Has the header 12 fields, and no stray CR or LF?
+ *     5  Is header field 1 (mark) `1`?
+ *    11  Is header field 2 (sender) `ZUS`?
+ *     8  Is header field 3 (file code) `EPE`?
+ *    99  Is header field 4 (edition) `1.0`?
+ *    14  Is header field 5 (identifier) the name's?
+ *    17  Is header field 8 (benefit date, yyyymmdd) `20` and the name's date?
+ *    20  Is header field 9 (payment kind) the name's?
+ *    23  Is header field 10 (benefit kind) the name's?
+ *   101  Is the identifier not yet in the book?
+ *   102  Is header field 7 (created, yyyymmddhhmmss) not empty?
+ *   103  Is it a real date and time of day, from 60 days before today to 10 days after?
+ *   120  Is header field 6 (unit) not empty?
+ *   121  Is it six letters or digits?
+ *   125  Is header field 8 (benefit date) within 30 days of today on either side?
+ *   126  Is header field 11 (order count) 1 to 6 digits?
+ *   127  Is it at least 1?
+ *   130  Does header field 12 (sum) read as a sum: 1 to 11 digits, a point, 2 digits?
+ *   131  Is it above zero?
+ *   901  Has every record line R fields and no stray CR or LF, its first field `2`, its second 1 to 6 digits counting 1, 2, 3 ..?
+ *   902  Does every record's field 3 read as an amount, 1 to 7 digits, a point, 2 digits, and above zero?
+ *   129  Are there as many record lines as header field 11 says?
+ *   132  Do the amounts add up to header field 12?
+ *   903  Are there fewer than 32 shipments in the book?
+ *   904  Do the orders fit, with those present, in 2,048 rows?
+ *
+ * A faulty order is no refusal: it is taken in as Faulty, by the first of these that its record has. Lengths are in code points.
+ *
+ *     1  Surname (record field 4) not 1 to 31 long.
+ *     2  First name (5) not 1 to 22 long.
+ *     3  Post town (6) not 1 to 35 long.
+ *     4  Postcode (7) not two digits, a hyphen, three digits.
+ *     5  Town (8) or street (9) above 35 long, or town, street and extra (12) all empty.
+ *     6  House number (10) above 11 long, or empty while extra is empty.
+ *     7  Extra not empty, and neither `PR` nor `SP_` or `PP_` with 1 to 5 digits.
+ *     8  Benefit identifier (14) not 1 to 20 long.
+ *     9  Period (15) not 1 to 35 long.
+ *    10  One of fields 4 to 19 starts or ends with a space.
+ */
+struct buntingraft_reply buntingraft_intake(uint8_t *book, size_t book_length, struct buntingraft_profile profile,
+                                            const uint8_t *name, size_t name_length, const uint8_t *file, size_t file_length);
+
+/*
+ * Takes a bank transfer of `amount` grosze, for the shipment and the money that its title says, in any stage.
+ *
+ * `title` is the shipment's whole name, as at intake, and then `-K` or `-O`, as EPEZZS1-201007-A-0-K.
+ *
+ * Done: 0, 0.
+ *
+ *    10  Is the book's memory long enough, and a sound book?
+ *    11  Is the title a shipment name and then `-K` or `-O`?
+ *    12  Is the amount 1 to 9,999,999,999,999?
+ *    13  Is a shipment of that whole name in the book?
+ *    14  Would the shipment's transfers of that money, with this one, still be at most 9,999,999,999,999 in all?
+ */
+struct buntingraft_reply buntingraft_transfer(uint8_t *book, size_t book_length, const uint8_t *title, size_t title_length,
+                                              uint64_t amount);
+
+/*
+ * The calls below are for the shipment whose identifier is `id`, as ZS1. Bytes that are no identifier are one that is not in
+ * the book. Each first asks:
+ *
+ *    10  Is the book's memory long enough, and a sound book?
+ *    13  Is the identifier in the book?
+ */
+
+/*
+ * Takes the insurer's go-ahead (OBS), with which a shipment may be paired though it has faulty orders.
+ *
+ * Done: 0, 0.
+ *
+ *    15  Is the shipment Waiting?
+ *    16  Has it a faulty order?
+ *    17  Has no go-ahead come before?
+ */
+struct buntingraft_reply buntingraft_go_ahead(uint8_t *book, size_t book_length, const uint8_t *id, size_t id_length);
+
+/*
+ * Pairs the shipment with its transfers, where they cover what it needs in both moneys.
+ *
+ * Done: 0, 0, and it is Paired.
+ * Short: the grosze missing of K, and those missing of O; it stays as it was.
+ *
+ *    15  Is the shipment Waiting?
+ *    18  Has it no faulty order, or a go-ahead?
+ */
+struct buntingraft_reply buntingraft_pair(uint8_t *book, size_t book_length, const uint8_t *id, size_t id_length);
+
+/*
+ * Closes the shipment (WYC or ODR): it will not be paired, and its transfers can go back by ZWR.
+ *
+ * Done: 0, 0.
+ *
+ *    15  Is the shipment Waiting?
+ */
+struct buntingraft_reply buntingraft_close(uint8_t *book, size_t book_length, const uint8_t *id, size_t id_length);
+
+/*
+ * The four calls on an order. Orders are counted from 1, as in the file. Each asks, after 10 and 13:
+ *
+ *    19  Is the shipment Paired?
+ *    20  Is the order's number 1 to the number of orders?
+ *    21  Is the order in the state that the call takes?
+ */
+
+/* Posts an Open order: its fee is earned. Done: the fee F, 0. */
+struct buntingraft_reply buntingraft_post(uint8_t *book, size_t book_length, const uint8_t *id, size_t id_length,
+                                          uint64_t order);
+
+/* Pays a Posted order out. Done: its amount, 0. */
+struct buntingraft_reply buntingraft_pay(uint8_t *book, size_t book_length, const uint8_t *id, size_t id_length,
+                                         uint64_t order);
+
+/* Marks a Posted order Undelivered: its amount waits. Done: 0, 0. */
+struct buntingraft_reply buntingraft_mark_undelivered(uint8_t *book, size_t book_length, const uint8_t *id, size_t id_length,
+                                                      uint64_t order);
+
+/* Withdraws an Open order: its amount and its fee wait. Done: 0, 0. */
+struct buntingraft_reply buntingraft_withdraw(uint8_t *book, size_t book_length, const uint8_t *id, size_t id_length,
+                                              uint64_t order);
+
+/*
+ * Returns to the insurer all that there is of a money on a route, and nothing of it is there after.
+ *
+ * Done: the sum in grosze, and the number of orders that it is of (0 for ZWR).
+ *
+ * By ZWR, after 10 and 13:
+ *
+ *    24  Is the shipment not Waiting?
+ *    23  Is there anything above zero to return?
+ *
+ * By OPR, ZPR and ZZR, after 10 and 13:
+ *
+ *    19  Is the shipment Paired?
+ *    22  Is it not ZPR with O?
+ *    23  Is there anything above zero to return?
+ *
+ * A route above 3 or a money above 1 is no return: it is asked 10, 13 and 19, and then refused with 22.
+ */
+struct buntingraft_reply buntingraft_return(uint8_t *book, size_t book_length, const uint8_t *id, size_t id_length,
+                                            uint64_t route, uint64_t money);
+
+#ifdef __cplusplus
+}
+#endif
+
+#endif
