@@ -1,0 +1,35 @@
+//! A plain reference implementation of the settlement book for EPE shipments.
+//!
+//! Written from document 01 (the law), document 00 (the demands), the decided
+//! readings and source document 003 sections 3, 5.1 and 6; from nothing else.
+//! It is meant to be read beside document 01: every question carries that
+//! document's words and number, in that document's order.
+//!
+//! - [`calendar`]: real dates and differences in days.
+//! - [`text`]: digits, letters, amounts, sums, identifiers.
+//! - [`name`]: the file's name and the transfer's title.
+//! - [`file`](mod@file): the profile and the questions a file is asked.
+//! - [`book`]: the book as plain values, its calls and their answers.
+
+pub mod book;
+pub mod calendar;
+pub mod file;
+pub mod name;
+pub mod text;
+
+pub use book::{Answer, Book, Call, Money, Route, Row, Shipment, Stage, State, Waits};
+pub use file::{judge, read_file, Order, OrderFile, Profile};
+pub use name::{read_name, read_title, Name};
+
+/// "An order's amount is 1 to 999,999,999"; a fee is 0 to the same.
+pub const MOST_AMOUNT: u64 = 999_999_999;
+
+/// "a sum's [...] reads at most 9,999,999,999,999"; a transfer and a total of
+/// transfers have the same cap.
+pub const MOST_SUM: u64 = 9_999_999_999_999;
+
+/// "Fewer than 32 shipments in the book?"
+pub const MOST_SHIPMENTS: usize = 32;
+
+/// "Its orders fit with those present in 2,048 rows?"
+pub const MOST_ROWS: usize = 2_048;

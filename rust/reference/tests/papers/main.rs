@@ -1,0 +1,9 @@
+//! The papers' own examples, questions and boundaries, asked of the reference.
+
+mod boundaries;
+mod card;
+mod file_questions;
+mod helpers;
+mod lists;
+mod refusals;
+mod zs1;
