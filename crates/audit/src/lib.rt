@@ -1,6 +1,6 @@
 // The audit of a book: demand 3 over any list of calls in lent memory, and a journal of calls replayed.
 mod journal;
-pub mod play;
+mod play;
 pub mod told;
 
 use crate::journal::does_journal_fit;

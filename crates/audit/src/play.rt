@@ -6,15 +6,12 @@ use crate::journal::profile_in;
 use crate::journal::route_in;
 use crate::journal::second_text;
 use crate::told::Told;
-use crate::told::done;
-use crate::told::refused;
-use crate::told::short;
-use book::answer::Acceptance;
-use book::answer::Pairing;
-use book::answer::Payment;
-use book::answer::Posting;
-use book::answer::Reply;
-use book::answer::Returning;
+use crate::told::tell_acceptance;
+use crate::told::tell_pairing;
+use crate::told::tell_payment;
+use crate::told::tell_posting;
+use crate::told::tell_reply;
+use crate::told::tell_returning;
 use book::close;
 use book::go_ahead;
 use book::intake;
@@ -27,99 +24,13 @@ use book::transfer;
 use book::withdraw;
 use epe::ident::Ident;
 use memory::number::read_eight;
-use money::Money;
 ghost use mathlib.Core.Path.{_≡_};
 ghost use mathlib.Core.Bool.{true};
 ghost use Prim.Native.Nat.{_≤_, _<_};
 ghost use lib.ListN.{length, getD};
-ghost use Rattle.money.specs.declared.Money.the-variants.{K, O};
 ghost use Rattle.model.specs.Calls.{Intake, Transfer, On};
-ghost use Rattle.book.specs.Answers.{replyOf, acceptanceOf, pairingOf, postingOf, paymentOf, returningOf};
 ghost use Rattle.audit.specs.Journal.{identIn, numberIn, profileIn, firstText, secondText, actIn, callIn, entryFits};
-ghost use Rattle.audit.specs.Replay.{toldOf, Plays};
-
-// What a reply says, in three numbers.
-pub fn tell_reply(reply: Reply) -> Told
-    ensures { λ r. ⌜ r ≡ toldOf (replyOf reply) ⌝ }
-{
-    match reply {
-        Reply::Done => done(0, 0),
-        Reply::Refused(number) => refused(number),
-    }
-}
-
-// What an acceptance says.
-pub fn tell_acceptance(acceptance: Acceptance) -> Told
-    ensures { λ r. ⌜ r ≡ toldOf (acceptanceOf acceptance) ⌝ }
-{
-    match acceptance {
-        Acceptance::Accepted(orders, faulty) => done(orders, faulty),
-        Acceptance::Refused(number) => refused(number),
-    }
-}
-
-// What a pairing says.
-pub fn tell_pairing(pairing: Pairing) -> Told
-    ensures { λ r. ⌜ r ≡ toldOf (pairingOf pairing) ⌝ }
-{
-    match pairing {
-        Pairing::Paired => done(0, 0),
-        Pairing::Short(amount, fee) => short(amount.0, fee.0),
-        Pairing::Refused(number) => refused(number),
-    }
-}
-
-// What a posting says.
-pub fn tell_posting(posting: Posting) -> Told
-    ensures { λ r. ⌜ r ≡ toldOf (postingOf posting) ⌝ }
-{
-    match posting {
-        Posting::Earned(fee) => done(fee.0, 0),
-        Posting::Refused(number) => refused(number),
-    }
-}
-
-// What a payment says.
-pub fn tell_payment(payment: Payment) -> Told
-    ensures { λ r. ⌜ r ≡ toldOf (paymentOf payment) ⌝ }
-{
-    match payment {
-        Payment::Paid(amount) => done(amount.0, 0),
-        Payment::Refused(number) => refused(number),
-    }
-}
-
-// What a return of amounts says.
-pub fn tell_amounts(returning: Returning) -> Told
-    ensures { λ r. ⌜ r ≡ toldOf (returningOf K returning) ⌝ }
-{
-    match returning {
-        Returning::Amounts(amount, count) => done(amount.0, count),
-        Returning::Fees(_, _) => done(0, 0),
-        Returning::Refused(number) => refused(number),
-    }
-}
-
-// What a return of fees says.
-pub fn tell_fees(returning: Returning) -> Told
-    ensures { λ r. ⌜ r ≡ toldOf (returningOf O returning) ⌝ }
-{
-    match returning {
-        Returning::Amounts(_, _) => done(0, 0),
-        Returning::Fees(fee, count) => done(fee.0, count),
-        Returning::Refused(number) => refused(number),
-    }
-}
-
-// What a return of either money says.
-pub fn tell_returning(money: Money, returning: Returning) -> Told
-    ensures { λ r. ⌜ r ≡ toldOf (returningOf money returning) ⌝ }
-{
-    match money {
-        Money::K => tell_amounts(returning),
-        Money::O => tell_fees(returning),
-    }
-}
+ghost use Rattle.audit.specs.Replay.{Plays};
 
 // Makes an entry's intake.
 fn play_intake(memory: &mut [u8], entry: &[u8]) -> Told

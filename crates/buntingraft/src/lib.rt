@@ -1,12 +1,12 @@
 // The C ABI of the library: its exports, and nothing else. include/buntingraft.h says what each is for.
-use audit::play::tell_acceptance;
-use audit::play::tell_pairing;
-use audit::play::tell_payment;
-use audit::play::tell_posting;
-use audit::play::tell_reply;
-use audit::play::tell_returning;
 use audit::told::Told;
 use audit::told::refused;
+use audit::told::tell_acceptance;
+use audit::told::tell_pairing;
+use audit::told::tell_payment;
+use audit::told::tell_posting;
+use audit::told::tell_reply;
+use audit::told::tell_returning;
 use calendar::date::Date;
 use epe::ident::ident_of;
 use epe::profile::Profile;

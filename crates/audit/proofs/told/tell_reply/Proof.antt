@@ -1,7 +1,7 @@
--- `audit::play::tell_reply` goes by the form of the reply.
+-- `audit::told::tell_reply` goes by the form of the reply.
 use borrow.Author.Needs.{needs}
-use Rattle.audit.proofs.play.tell_reply.Statement.{statement}
-use Rattle.audit.proofs.play.tell_reply.Tie as tie
+use Rattle.audit.proofs.told.tell_reply.Statement.{statement}
+use Rattle.audit.proofs.told.tell_reply.Tie as tie
 
 enum-told : tie.Need-enum-told
 enum-told c = search needs
