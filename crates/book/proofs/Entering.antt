@@ -1,7 +1,6 @@
 -- An intake that has come to its contents: its orders, its head and its number are stored, or a question refuses it.
 -- Assumes nothing.
 use mathlib.Core.Path.{_≡_, refl, sym, ap, _∙_}
-use mathlib.Core.Bool.{false}
 use mathlib.Core.List.{List, [], _∷_, map}
 use mathlib.Core.Logic.{inl}
 use Prim.Native.Nat.{ℕ, zero, suc, _+_, _-_, _≤_, _<_, _^_}
@@ -15,15 +14,14 @@ use Rattle.epe.specs.Accepted.{OrderInRange, EachInRange}
 use Rattle.epe.specs.declared.file.Taken.{Taken}
 use Rattle.epe.specs.declared.name.Name.{Name}
 use Rattle.epe.specs.declared.record.Order.{Order}
-use Rattle.model.specs.Book.{enteredRow, rowsIn}
-use Rattle.model.specs.declared.Stage.the-variants.{Waiting}
+use Rattle.model.specs.Book.{enteredRow, newShipment, rowsIn}
 use Rattle.memory.specs.Layout.{headBytes, rowBytes}
 use Rattle.memory.specs.Rows.{rowOf}
 use Rattle.memory.specs.Enter.{OrderEntered, HeadEntered}
 use Rattle.memory.specs.Read.{rowsFrom, shipmentAt, shipmentsFrom, bookIn}
 use Rattle.memory.proofs.Parts.{number-heads, number-rows}
 use Rattle.book.specs.Place.{RowsStored}
-use Rattle.book.specs.Entering.{noneTaken, rowFor, newShipment, Fits, ShipmentEntered}
+use Rattle.book.specs.Entering.{noneTaken, rowFor, Fits, ShipmentEntered}
 use Rattle.book.proofs.Storing.{one-more-stored}
 use Rattle.book.proofs.Appending.{appended, flags-alike}
 
@@ -87,28 +85,18 @@ module _ (m m₁ m₂ : List ℕ) (i k : ℕ) (name : Name) (fee n : ℕ) (file 
       ∙ stored .rows (k + j) (omega arith) (omega (arith, fits .all))
       ∙ ap (λ p. enteredRow (getD (orders file) p noneTaken)) place))
 
-  shipment-new : shipmentAt m′ i k ≡ newShipment name fee (orders file)
+  shipment-new : shipmentAt m′ i k ≡ newShipment name fee (map enteredRow (orders file))
   shipment-new =
       rw (number-heads m₂ (i + 1) i, head .orders)
-      (head .shipment (rowsFrom m′ k n) ∙ ap (λ rows. record {
-        name = name;
-        fee = fee;
-        stage = Waiting;
-        goAhead = false;
-        acceptedK = 0;
-        acceptedO = 0;
-        returnedK = 0;
-        returnedO = 0;
-        rows = rows;
-      }) rows-new)
+      (head .shipment (rowsFrom m′ k n) ∙ ap (newShipment name fee) rows-new)
 
-  pub shipment-entered : ShipmentEntered (newShipment name fee (orders file)) m m′
+  pub shipment-entered : ShipmentEntered (newShipment name fee (map enteredRow (orders file))) m m′
   unfolding bookIn
   shipment-entered = record {
     book =
         rw number-is
         (rw (← fits .last)
-        (appended m m′ i (newShipment name fee (orders file)) heads-before
+        (appended m m′ i (newShipment name fee (map enteredRow (orders file))) heads-before
         (λ r before. rows-before r (omega (arith, fits .from, from-is)))
         (rw (← from-is) shipment-new)));
     flags = λ h.

@@ -2,7 +2,7 @@
 -- Assumes nothing.
 use mathlib.Core.Path.{_≡_, refl, sym, ap, _∙_}
 use mathlib.Core.Bool.{Bool, true, false, cond, false≢true}
-use mathlib.Core.List.{List, [], _∷_}
+use mathlib.Core.List.{List, [], _∷_, map}
 use Prim.Native.Nat.{ℕ, zero, suc, _+_, _-_, _≤_, _<_, _^_}
 use native.Mathlib.Omega.{arith}
 use borrow.Author.Tests.{leb-true, le-leb, lt-leb, le-ltb, lt-ltb}
@@ -24,7 +24,7 @@ use Rattle.epe.specs.declared.verdict.Verdict.the-variants.{Passed, Refused as 
 use Rattle.epe.proofs.AcceptedAsStated.{accepted-as-stated}
 use Rattle.model.specs.Shipment.{Shipment}
 use Rattle.model.specs.Calls.{Call, Intake, Answer, Refused, Accepted}
-use Rattle.model.specs.Book.{Book, Step, stay, inquire, unlessRefused, isUnknown, rowsIn, entered, takenIn, step}
+use Rattle.model.specs.Book.{Book, Step, stay, inquire, unlessRefused, isUnknown, rowsIn, enteredRow, newShipment, entered, takenIn, step}
 use Rattle.model.specs.Sound.{sound}
 use Rattle.model.proofs.SoundParts.{halves}
 use Rattle.model.proofs.StaysSound.{stays-sound, opened-in-form}
@@ -32,7 +32,7 @@ use Rattle.memory.specs.Layout.{size}
 use Rattle.memory.specs.Read.{shipmentsFrom, shipmentsIn, bookIn, soundIn}
 use Rattle.sound.proofs.ReadLaws.{shipments-many, sound-parts}
 use Rattle.book.specs.Does.{Does}
-use Rattle.book.specs.Entering.{newShipment, enteredIn, Fits, Opened, Counted, ShipmentEntered, DoesEnter}
+use Rattle.book.specs.Entering.{enteredIn, Fits, Opened, Counted, ShipmentEntered, DoesEnter}
 use Rattle.book.proofs.Calls.{does-no-book, does-step, stays}
 
 -- a fee of the profile
@@ -62,7 +62,7 @@ inquire-no t number book next h = rw h
 -- a file that passed its questions, for a book of i shipments
 module _ (m : List ℕ) (i : ℕ) (name : Name) (fee : ℕ) (file : List ℕ) (opened : Opened m i name fee) where
   abbrev new : Shipment
-  new = newShipment name fee (orders file)
+  new = newShipment name fee (map enteredRow (orders file))
 
   book-length : length (bookIn m) ≡ i
   unfolding bookIn
@@ -163,7 +163,7 @@ module _ (m : List ℕ) (i : ℕ) (profile : Profile) (name : Name) (file : List
         in-range = accepted-as-stated profile file (passed .0) .in-range;
       }
 
-      pub contents-accepted : {answer : Answer} {m′ : List ℕ} → DoesEnter Passed (newShipment name fee (orders file)) (orders file) m answer m′
+      pub contents-accepted : {answer : Answer} {m′ : List ℕ} → DoesEnter Passed (newShipment name fee (map enteredRow (orders file))) (orders file) m answer m′
           → DoesEnter (contents profile file) (entered profile name (orders file)) (orders file) m answer m′
       unfolding entered
       contents-accepted enters = rw (passed .0, ← is-fee) enters

@@ -1,7 +1,7 @@
 -- A shipment entered behind the last. Only the contracts below `intake` need these.
 use mathlib.Core.Path.{_≡_}
-use mathlib.Core.Bool.{true, false}
-use mathlib.Core.List.{List, [], _∷_, _++_, map}
+use mathlib.Core.Bool.{true}
+use mathlib.Core.List.{List, [], _∷_, _++_}
 use Prim.Native.Nat.{ℕ, _+_, _-_, _≤_, _<_, _^_}
 use lib.Dec.{leb, ltb}
 use lib.ListN.{length, getD}
@@ -15,7 +15,6 @@ use Rattle.model.specs.Shipment.{Shipment}
 use Rattle.model.specs.Calls.{Call, Answer, Accepted}
 use Rattle.model.specs.Book.{Book, Step, stay, inquire, unlessRefused, rowsIn, enteredRow, step}
 use Rattle.model.specs.declared.Row.{Row}
-use Rattle.model.specs.declared.Stage.the-variants.{Waiting}
 use Rattle.memory.specs.Layout.{size}
 use Rattle.memory.specs.Read.{shipmentsIn, flagsFrom, bookIn, soundIn}
 use Rattle.book.specs.Does.{Does}
@@ -26,20 +25,6 @@ noneTaken = record { amount = record { 0 = 0 }; fault = 0 }
 
 abbrev pub rowFor : ℕ → List Order → ℕ → Row
 rowFor k orders r = enteredRow (getD orders (r - k) noneTaken)
-
--- A shipment just entered, with its fee.
-abbrev pub newShipment : Name → ℕ → List Order → Shipment
-newShipment name fee orders = record {
-  name = name;
-  fee = fee;
-  stage = Waiting;
-  goAhead = false;
-  acceptedK = 0;
-  acceptedO = 0;
-  returnedK = 0;
-  returnedO = 0;
-  rows = map enteredRow orders;
-}
 
 -- There is room for a shipment as the i-th, its rows from the k-th on, and all that is to be entered is in its form.
 pub record Fits (m : List ℕ) (i k : ℕ) (name : Name) (fee n : ℕ) (file : List ℕ) : Type 0 where

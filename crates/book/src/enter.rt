@@ -20,6 +20,7 @@ use memory::shipments;
 use memory::store_shipments;
 ghost use mathlib.Core.Path.{_≡_};
 ghost use mathlib.Core.Bool.{true};
+ghost use mathlib.Core.List.{map};
 ghost use Prim.Native.Nat.{_+_, _≤_, _<_, _^_};
 ghost use lib.ListN.{length, getD};
 ghost use Rattle.epe.specs.Name.{nameInForm};
@@ -28,13 +29,13 @@ ghost use Rattle.epe.specs.Contents.{contents, orders};
 ghost use Rattle.epe.specs.Accepted.{EachInRange};
 ghost use Rattle.epe.specs.declared.verdict.Verdict.the-variants.{Passed};
 ghost use Rattle.model.specs.Calls.{Intake};
-ghost use Rattle.model.specs.Book.{isUnknown, rowsIn, entered};
+ghost use Rattle.model.specs.Book.{isUnknown, rowsIn, enteredRow, newShipment, entered};
 ghost use Rattle.memory.specs.Layout.{size};
 ghost use Rattle.memory.specs.Read.{shipmentsFrom, shipmentsIn, soundIn};
 ghost use Rattle.book.specs.Answers.{acceptanceOf};
 ghost use Rattle.book.specs.Does.{Does};
 ghost use Rattle.book.specs.Place.{RowsStored};
-ghost use Rattle.book.specs.Entering.{rowFor, newShipment, Fits, ShipmentEntered, Opened, Counted, DoesEnter};
+ghost use Rattle.book.specs.Entering.{rowFor, Fits, ShipmentEntered, Opened, Counted, DoesEnter};
 
 // How many rows n shipments have.
 fn rows_of(memory: &[u8], n: usize) -> usize
@@ -81,7 +82,7 @@ fn enter_orders(memory: &mut [u8], k: usize, n: usize, file: &[u8])
 // Enters a shipment of n orders as the i-th, its rows from the k-th on.
 fn enter(memory: &mut [u8], i: usize, k: usize, name: Name, fee: u64, n: u64, file: &[u8])
     requires { ⌜ Fits (now memory) i k name fee n (now file) ⌝ }
-    ensures { λ _. ⌜ ShipmentEntered (newShipment name fee (orders (now (file .entry)))) (now (memory .entry)) (now (memory .exit)) ⌝ }
+    ensures { λ _. ⌜ ShipmentEntered (newShipment name fee (map enteredRow (orders (now (file .entry))))) (now (memory .entry)) (now (memory .exit)) ⌝ }
 {
     enter_orders(memory, k, n as usize, file);
     enter_head(memory, i, name, fee, n);
@@ -99,7 +100,7 @@ fn enter_behind(
     file: &[u8],
 ) -> Acceptance
     requires { ⌜ Opened (now memory) i name fee × Counted n faulty (now file) ⌝ }
-    ensures { λ r. ⌜ DoesEnter Passed (newShipment name fee (orders (now (file .entry)))) (orders (now (file .entry))) (now (memory .entry)) (acceptanceOf r) (now (memory .exit)) ⌝ }
+    ensures { λ r. ⌜ DoesEnter Passed (newShipment name fee (map enteredRow (orders (now (file .entry))))) (orders (now (file .entry))) (now (memory .entry)) (acceptanceOf r) (now (memory .exit)) ⌝ }
 {
     if 32 <= i {
         return Acceptance::Refused(refusals::SHIPMENTS);

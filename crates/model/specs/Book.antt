@@ -77,18 +77,21 @@ rowsIn book = sum (λ (s : Shipment). length (s .rows)) book
 abbrev pub enteredRow : Order → Row
 enteredRow order = record { amount = order .amount; state = cond (eqb (order .fault) 0) Open (Faulty (order .fault) true true) }
 
-unfoldable pub entered : Profile → Name → List Order → Shipment
-entered profile name orders = record {
+abbrev pub newShipment : Name → ℕ → List Row → Shipment
+newShipment name fee rows = record {
   name = name;
-  fee = getD (profile .fees) (name .kind) 0;
+  fee = fee;
   stage = Waiting;
   goAhead = false;
   acceptedK = 0;
   acceptedO = 0;
   returnedK = 0;
   returnedO = 0;
-  rows = map enteredRow orders;
+  rows = rows;
 }
+
+unfoldable pub entered : Profile → Name → List Order → Shipment
+entered profile name orders = newShipment name (getD (profile .fees) (name .kind) 0) (map enteredRow orders)
 
 -- "Profile within the ranges above? 905", the opening, "Identifier not yet in the book? 101", the contents,
 -- "Fewer than 32 shipments in the book? 903", "Its orders fit with those present in 2,048 rows? 904".
