@@ -1,25 +1,17 @@
--- A journal read in place: the identifier copied byte by byte, what a whole entry has, and one entry behind the other.
+-- A journal read in place: what a whole entry has, and one entry behind the other.
 -- Assumes nothing.
 use mathlib.Core.Path.{_≡_}
 use mathlib.Core.Bool.{true, false}
 use mathlib.Core.List.{List}
 use Prim.Native.Nat.{ℕ, zero, suc, _+_, _-_, _<_, _≤_}
-use native.Mathlib.Numerals.{add-one}
 use native.Mathlib.Omega.{arith}
 use borrow.Author.Tests.{leb-true, le-leb, eqb-true, eq-eqb}
 use lib.Dec.{leb, eqb}
-use lib.ListN.{length, getD, take, drop, set, length-drop}
-use lib.Seq.{take-suc, take-suc-set, getD-drop, drop-drop}
+use lib.ListN.{length, drop, length-drop}
+use lib.Seq.{drop-drop}
 use Rattle.text.proofs.Branches.{both-ways}
 use Rattle.model.proofs.SoundParts.{halves}
 use Rattle.audit.specs.Journal.{entryLength, entryFits, entriesFit}
-
--- bytes from a place on, copied one by one
-module _ (s bytes : List ℕ) (at i : ℕ) (room : i < length bytes) (there : at + i < length s) where
-  pub byte-copied : take i bytes ≡ take i (drop at s) → take (i + 1) (set bytes i (getD s (at + i) 0)) ≡ take (i + 1) (drop at s)
-  byte-copied copied =
-      let long : i < length (drop at s) = omega (arith, length-drop at s) in
-      rw (add-one, take-suc-set bytes i (getD s (at + i) 0) room, take-suc (drop at s) i 0 long, getD-drop, copied)
 
 -- a whole entry has its fields and both texts
 module _ (entry : List ℕ) (fits : entryFits entry ≡ true) where

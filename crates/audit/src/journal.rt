@@ -2,6 +2,7 @@
 use calendar::date::Date;
 use epe::ident::Ident;
 use epe::profile::Profile;
+use memory::name::ident_bytes;
 use memory::number::read_eight;
 use model::Route;
 use money::Money;
@@ -11,29 +12,15 @@ ghost use mathlib.Core.Path.{_≡_};
 ghost use mathlib.Core.Bool.{true};
 ghost use Prim.Native.Nat.{_≤_};
 ghost use lib.Dec.{leb};
-ghost use lib.ListN.{length, take, drop};
+ghost use lib.ListN.{length};
 ghost use Rattle.audit.specs.Journal.{identIn, profileIn, routeIn, moneyIn, firstText, secondText, entryLength, entryFits, entriesFit, journalFits};
-
-// The 17 bytes of the identifier.
-fn ident_bytes(entry: &[u8]) -> [u8; 17]
-    requires { ⌜ 101 ≤ length (now entry) ⌝ }
-    ensures { λ r. ⌜ r ≡ take 17 (drop 4 (now (entry .entry))) ⌝ }
-{
-    let mut bytes = [0u8; 17];
-    let mut i = 0;
-    while i < 17 {
-        bytes[i] = entry[4 + i];
-        i += 1;
-    }
-    bytes
-}
 
 // The identifier of an entry.
 pub fn ident_in(entry: &[u8]) -> Ident
     requires { ⌜ 101 ≤ length (now entry) ⌝ }
     ensures { λ r. ⌜ r ≡ identIn (now (entry .entry)) ⌝ }
 {
-    let bytes = ident_bytes(entry);
+    let bytes = ident_bytes(entry, 4);
     Ident {
         bytes,
         len: entry[3] as usize,

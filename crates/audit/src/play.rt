@@ -26,7 +26,7 @@ use epe::ident::Ident;
 use memory::number::read_eight;
 ghost use mathlib.Core.Path.{_≡_};
 ghost use mathlib.Core.Bool.{true};
-ghost use Prim.Native.Nat.{_≤_, _<_};
+ghost use Prim.Native.Nat.{_≤_};
 ghost use lib.ListN.{length, getD};
 ghost use Rattle.model.specs.Calls.{Intake, Transfer, On};
 ghost use Rattle.audit.specs.Journal.{identIn, numberIn, profileIn, firstText, secondText, actIn, callIn, entryFits};

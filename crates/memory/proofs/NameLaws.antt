@@ -1,18 +1,27 @@
--- The identifier in a head: two are the same just where three numbers of their heads are equal, and the zeros behind one.
+-- The identifier in a head: it is copied byte by byte, two are the same just where three numbers of their heads are equal, and the zeros behind one.
 -- Assumes nothing.
 use mathlib.Core.Path.{_≡_, sym, ap, _∙_}
 use mathlib.Core.Bool.{Bool, _&&_, and-comm}
 use mathlib.Core.List.{List}
 use Prim.Native.Nat.{ℕ, zero, suc, _+_, _-_, _<_}
 use native.Mathlib.Nat.{sub-zero, zero-sub}
+use native.Mathlib.Numerals.{add-one}
 use native.Mathlib.Omega.{arith}
 use lib.Dec.{eqb}
-use lib.ListN.{length, getD, take, drop, replicate}
+use lib.ListN.{length, getD, take, drop, replicate, set, length-drop}
+use lib.Seq.{take-suc, take-suc-set, getD-drop}
 use Rattle.text.specs.Bytes.{same}
 use Rattle.epe.specs.Ident.{sameIdent}
 use Rattle.memory.specs.Number.{numberAt}
 use Rattle.memory.specs.Heads.{nameIn}
 use Rattle.memory.proofs.Numbers.{alike, by-parts, by-bytes}
+
+-- bytes from a place on, copied one by one
+module _ (s bytes : List ℕ) (at i : ℕ) (room : i < length bytes) (there : at + i < length s) where
+  pub byte-copied : take i bytes ≡ take i (drop at s) → take (i + 1) (set bytes i (getD s (at + i) 0)) ≡ take (i + 1) (drop at s)
+  byte-copied copied =
+      let long : i < length (drop at s) = omega (arith, length-drop at s) in
+      rw (add-one, take-suc-set bytes i (getD s (at + i) 0) room, take-suc (drop at s) i 0 long, getD-drop, copied)
 
 one-byte : (head : List ℕ) (at : ℕ) → numberAt 1 head at ≡ getD head at 0
 unfolding numberAt

@@ -1,8 +1,9 @@
-// The name in a head: compared by value, and judged.
+// The name in a head: its identifier, compared by value, and judged.
 ghost use mathlib.Core.Path.{_≡_};
 ghost use mathlib.Core.Bool.{_||_};
 ghost use lib.Dec.{eqb};
-ghost use lib.ListN.{length};
+ghost use Prim.Native.Nat.{_+_, _≤_};
+ghost use lib.ListN.{length, take, drop};
 ghost use Rattle.epe.specs.Ident.{sameIdent, identInForm};
 ghost use Rattle.epe.specs.Name.{nameInForm};
 ghost use Rattle.model.specs.Book.{sameName};
@@ -18,6 +19,32 @@ use epe::name::Name;
 use text::bytes::equal;
 use text::bytes::first;
 use text::bytes::rest;
+
+// The 17 bytes from a place on.
+pub fn ident_bytes(s: &[u8], at: usize) -> [u8; 17]
+    requires { ⌜ at + 17 ≤ length (now s) ⌝ }
+    ensures { λ r. ⌜ r ≡ take 17 (drop at (now (s .entry))) ⌝ }
+{
+    let mut bytes = [0u8; 17];
+    let mut i = 0;
+    while i < 17 {
+        bytes[i] = s[at + i];
+        i += 1;
+    }
+    bytes
+}
+
+// The shipment's identifier.
+pub fn ident(head: &[u8]) -> Ident
+    requires { ⌜ length (now head) ≡ 64 ⌝ }
+    ensures { λ r. ⌜ r ≡ nameIn (now (head .entry)) .ident ⌝ }
+{
+    let bytes = ident_bytes(head, 0);
+    Ident {
+        bytes,
+        len: head[17] as usize,
+    }
+}
 
 // Is the shipment of that identifier?
 pub fn is_called(head: &[u8], ident: Ident) -> bool

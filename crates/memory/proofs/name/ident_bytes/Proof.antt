@@ -1,19 +1,19 @@
--- `audit::journal::ident_bytes` copies byte by byte: the first i are those of the entry from byte 4 on.
+-- `memory::name::ident_bytes` copies byte by byte: the first i are those from the place on.
 use mathlib.Core.Path.{_≡_, sym, _∙_}
 use Prim.Native.Nat.{_-_, _≤_}
 use native.Mathlib.Omega.{arith}
 use lib.ListN.{length, take, drop, length-set}
 use lib.Seq.{take-all}
-use Rattle.audit.proofs.JournalLaws.{byte-copied}
+use Rattle.memory.proofs.NameLaws.{byte-copied}
 use borrow.Author.Needs.{needs}
-use Rattle.audit.proofs.journal.ident_bytes.Statement.{statement}
-use Rattle.audit.proofs.journal.ident_bytes.Tie as tie
+use Rattle.memory.proofs.name.ident_bytes.Statement.{statement}
+use Rattle.memory.proofs.name.ident_bytes.Tie as tie
 
 abbrev Inv-loop : tie.InvT-loop
-Inv-loop entry bytes₀ i₀ bytes i = (i ≤ 17) × (length bytes ≡ 17) × (take i bytes ≡ take i (drop 4 entry))
+Inv-loop s at bytes₀ i₀ bytes i = (i ≤ 17) × (length bytes ≡ 17) × (take i bytes ≡ take i (drop at s))
 
 abbrev μ-loop : tie.MeasureT-loop
-μ-loop entry bytes₀ i₀ bytes i = 17 - i
+μ-loop s at bytes₀ i₀ bytes i = 17 - i
 
 loop-holds : tie.Need-loop-holds Inv-loop μ-loop
 loop-holds c = search needs
@@ -36,10 +36,10 @@ loop-less c = search needs
 loop-again : tie.Need-loop-again Inv-loop μ-loop
 loop-again c =
     let turn = c .before .before in
-    let entry = turn .before .args .entry .now in (
+    let start = turn .before .args in (
       omega arith,
       simp length-set (turn .loop .inv .1),
-      byte-copied entry (turn .loop .bytes) 4 (turn .loop .i) (omega arith) (omega arith) (turn .loop .inv .2),
+      byte-copied (start .s .now) (turn .loop .bytes) (start .at) (turn .loop .i) (omega arith) (omega arith) (turn .loop .inv .2),
     )
 
 returns : tie.Need-returns Inv-loop μ-loop
