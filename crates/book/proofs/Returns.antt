@@ -1,71 +1,165 @@
--- Returns by OPR, ZPR and ZZR: what waits in a shipment's orders is added up one by one, then waits no more, row by row.
+-- Returns by OPR, ZPR and ZZR: row by row, what waits in a shipment's orders is added up and waits no more.
 -- Assumes nothing.
 use mathlib.Core.Path.{_≡_, refl, sym, ap, _∙_}
-use mathlib.Core.Bool.{Bool, true, false, not}
-use mathlib.Core.List.{List, map}
+use mathlib.Core.Bool.{Bool, true, false, not, false≢true}
+use mathlib.Core.List.{List, [], _∷_, map}
 use mathlib.Core.Logic.{inr}
-use Prim.Native.Nat.{ℕ, zero, suc, _+_, _≤_, _<_}
+use Prim.Native.Nat.{ℕ, zero, suc, _+_, _*_, _/_, _≤_, _<_}
 use native.Mathlib.Numerals.{add-one}
 use native.Mathlib.Omega.{arith}
-use borrow.Author.Tests.{lt-ltb}
-use lib.Dec.{ltb}
+use borrow.Author.Tests.{lt-ltb, leb-true, eqb-true, eqb-false}
+use lib.Dec.{ltb, eqb}
 use lib.ListN.{getD}
 use Rattle.money.specs.declared.Money.{Money}
-use Rattle.model.specs.Shipment.{Shipment, isPaired, when, sum, worth}
+use Rattle.money.specs.declared.Money.the-variants.{K, O}
+use Rattle.model.specs.Shipment.{of, Shipment, isPaired, when, sum, worth}
 use Rattle.model.specs.Calls.{Refused, Returned, leave, withRows, waitsOn, afterReturn, waiting, waitingOrders, isZprWithO, returnedBy}
+use Rattle.model.specs.Sound.{rowSound, rowsSound}
 use Rattle.model.specs.declared.Route.{Route}
 use Rattle.model.specs.declared.Row.{Row}
+use Rattle.model.specs.declared.Stage.{Stage}
+use Rattle.model.proofs.SoundParts.{halves, in-order}
 use Rattle.memory.specs.Number.{numberAt}
 use Rattle.memory.specs.Layout.{headBytes, rowBytes}
-use Rattle.memory.specs.Rows.{rowOf, RowReturned}
+use Rattle.memory.specs.Rows.{rowOf}
 use Rattle.memory.specs.Heads.{stageOf, shipmentIn}
 use Rattle.memory.specs.Read.{rowsFrom, ordersAt, shipmentAt}
 use Rattle.book.specs.Place.{Sits, ActAt}
-use Rattle.book.specs.Waiting.{withOrder, waitingOf, RowsReturned}
+use Rattle.book.specs.Waiting.{waitingOf, RowCleared, RowsReturned, Cleared}
 use Rattle.book.specs.declared.route.Waiting.{Waiting}
-use Rattle.book.proofs.Storing.{one-more-stored}
+use Rattle.book.proofs.Storing.{none-stored, one-more-stored}
 use Rattle.book.proofs.RowLaws.{rows-mapped}
-use Rattle.book.proofs.HeadFields.{orders-are, paired-is}
+use Rattle.book.proofs.HeadFields.{orders-are, fee-is, paired-is}
 use Rattle.book.proofs.Acting.{ask-yes, ask-no, refused-at, rows-changed}
 
--- what waits with one order more
-module _ (route : Route) (money : Money) (fee : ℕ) (row : Row) (before : Waiting) {waits : Bool} (is-waits : waits ≡ waitsOn route money row) where
-  pub without-order : waits ≡ false → before ≡ withOrder before route money fee row
-  without-order none =
-      let same : (n : ℕ) → n + 0 ≡ n = λ n. omega arith in
-      rw (sym is-waits ∙ none, same (before .sum), same (before .count))
+-- a wait is at most 2, and counts as often as it adds to the byte of state
+pub twice-at-most : (n times : ℕ) → times ≤ 2 → n * times ≤ 2 * n
+twice-at-most n zero h = omega arith
+twice-at-most n (suc zero) h = omega arith
+twice-at-most n (suc (suc zero)) h = omega arith
+twice-at-most n (suc (suc (suc times))) h = absurd (omega arith)
 
-  pub with-worth : {n : ℕ} → n ≡ worth money fee row → waits ≡ true
-      → record { sum = before .sum + n; count = before .count + 1 } ≡ withOrder before route money fee row
-  with-worth is-worth waiting = rw (sym is-waits ∙ waiting, is-worth)
+one-more-worth : (money : Money) (waits : Bool) (total n : ℕ)
+    → total * of money 1 2 + n * when waits (of money 1 2) ≡ (total + when waits n) * of money 1 2
+one-more-worth K true total n = omega arith
+one-more-worth K false total n = omega arith
+one-more-worth O true total n = omega arith
+one-more-worth O false total n = omega arith
 
-module _ (m : List ℕ) where
-  sum-then : (f : Row → ℕ) (k n : ℕ) → sum f (rowsFrom m k (suc n)) ≡ sum f (rowsFrom m k n) + f (rowOf (rowBytes m (k + n)))
+one-more-order : (money : Money) (waits : Bool) (total : ℕ) → total * of money 1 2 + when waits (of money 1 2) ≡ (total + when waits 1) * of money 1 2
+one-more-order K true total = omega arith
+one-more-order K false total = omega arith
+one-more-order O true total = omega arith
+one-more-order O false total = omega arith
+
+counted-once : (money : Money) (n : ℕ) → n * of money 1 2 / of money 1 2 ≡ n
+counted-once K n = omega arith
+counted-once O n = omega arith
+
+module _ (m : List ℕ) (f : Row → ℕ) where
+  sum-then : (k n : ℕ) → sum f (rowsFrom m k (suc n)) ≡ sum f (rowsFrom m k n) + f (rowOf (rowBytes m (k + n)))
   unfolding rowsFrom
-  sum-then f k zero = let here : k + 0 ≡ k = omega arith in rw here (omega arith)
-  sum-then f k (suc n) =
+  sum-then k zero = let here : k + 0 ≡ k = omega arith in rw here (omega arith)
+  sum-then k (suc n) =
       let next : k + suc n ≡ suc k + n = omega arith in
-      let rest = sum-then f (suc k) n in
+      let rest = sum-then (suc k) n in
       rw next (omega arith)
 
-  module _ (route : Route) (money : Money) (fee k n : ℕ) where
-    waiting-then : waitingOf route money fee (rowsFrom m k (suc n))
-        ≡ withOrder (waitingOf route money fee (rowsFrom m k n)) route money fee (rowOf (rowBytes m (k + n)))
-    waiting-then = λ t. record {
-      sum = sum-then (λ row. when (waitsOn route money row) (worth money fee row)) k n t;
-      count = sum-then (λ row. when (waitsOn route money row) 1) k n t;
-    }
-
-    pub one-more-waits : {row : List ℕ} {before after : Waiting} → before ≡ waitingOf route money fee (rowsFrom m k n) → row ≡ rowBytes m (k + n)
-        → after ≡ withOrder before route money fee (rowOf row) → after ≡ waitingOf route money fee (rowsFrom m k (n + 1))
-    one-more-waits is-before is-row is-after = rw (add-one, is-after, is-before, is-row) (sym waiting-then)
+  sum-more : (k n : ℕ) → sum f (rowsFrom m k n) + f (rowOf (rowBytes m (k + n))) ≡ sum f (rowsFrom m k (n + 1))
+  sum-more k n = rw add-one (sym (sum-then k n))
 
 -- rows returned one after the other
-pub one-more-returned : {route : Route} {money : Money} {k n : ℕ} {l m m′ : List ℕ} → RowsReturned route money k n l m
-    → RowReturned route money (k + n) m m′ → RowsReturned route money k (n + 1) l m′
-one-more-returned {route} {money} {k} {n} rest one =
-    one-more-stored rest
-    (one .row ∙ ap (λ bytes. afterReturn route money (rowOf bytes)) (rest .only 0 .other-rows (k + n) (inr (omega arith)))) (one .only)
+pub record Clearing (route : Route) (money : Money) (fee k n : ℕ) (m m′ : List ℕ) (taken : Waiting) : Type 0 where
+  pub added : taken .sum ≡ waitingOf route money fee (rowsFrom m k n) .sum * of money 1 2
+  pub counted : taken .count ≡ waitingOf route money fee (rowsFrom m k n) .count * of money 1 2
+  pub returned : RowsReturned route money k n m m′
+  pub still : taken .count ≡ 0 → m′ ≡ m
+
+module _ {route : Route} {money : Money} {fee k : ℕ} where
+  pub none-cleared : {m : List ℕ} → Clearing route money fee k 0 m m (record { sum = 0; count = 0 })
+  unfolding rowsFrom
+  none-cleared = record { added = none; counted = none; returned = none-stored; still = λ h. refl }
+    where
+      none : 0 ≡ 0 * of money 1 2
+      none = omega arith
+
+  pub one-more-cleared : {n : ℕ} {l m m′ : List ℕ} {before after : Waiting} → Clearing route money fee k n l m before
+      → RowCleared route money fee (k + n) before m m′ after → Clearing route money fee k (n + 1) l m′ after
+  one-more-cleared {n} {l} {m} {m′} {before} {after} rest one =
+      let row-is = rest .returned .only 0 .other-rows (k + n) (inr (omega arith)) in
+      let row = rowOf (rowBytes l (k + n)) in
+      let waits = waitsOn route money row in
+      let took : one .taken ≡ when waits (of money 1 2)
+      = one .row .took ∙ ap (λ bytes. when (waitsOn route money (rowOf bytes)) (of money 1 2)) row-is in
+      record {
+        added = one .added
+            ∙ ap (λ bytes. before .sum + worth money fee (rowOf bytes) * one .taken) row-is
+            ∙ ap (λ n. before .sum + worth money fee row * n) took
+            ∙ ap (λ n. n + worth money fee row * when waits (of money 1 2)) (rest .added)
+            ∙ one-more-worth money waits _ (worth money fee row)
+            ∙ ap (λ n. n * of money 1 2) (sum-more l (λ row. when (waitsOn route money row) (worth money fee row)) k n);
+        counted = one .counted
+            ∙ ap (λ n. before .count + n) took
+            ∙ ap (λ n. n + when waits (of money 1 2)) (rest .counted)
+            ∙ one-more-order money waits _
+            ∙ ap (λ n. n * of money 1 2) (sum-more l (λ row. when (waitsOn route money row) 1) k n);
+        returned = one-more-stored (rest .returned)
+            (one .row .row ∙ ap (λ bytes. afterReturn route money (rowOf bytes)) row-is) (one .row .only);
+        still = λ none.
+            let grown = one .counted in
+            one .row .still (omega arith) ∙ rest .still (omega arith);
+      }
+
+  pub all-cleared : {n wait : ℕ} {m m′ : List ℕ} {taken : Waiting} → Clearing route money fee k n m m′ taken → wait ≡ of money 1 2
+      → Cleared route money fee k n m m′ (record { sum = taken .sum / wait; count = taken .count / wait })
+  all-cleared {n} {wait} {m} {m′} {taken} all wait-is =
+      let once : (x y : ℕ) → x ≡ y * of money 1 2 → x / wait ≡ y
+      = λ x y is. ap (λ w. x / w) wait-is ∙ ap (λ x. x / of money 1 2) is ∙ counted-once money y in
+      let sum-is = once (taken .sum) _ (all .added) in
+      let count-is = once (taken .count) _ (all .counted) in
+      record {
+        found = λ t. record { sum = sum-is t; count = count-is t };
+        returned = all .returned;
+        still = λ none. all .still (all .counted ∙ ap (λ n. n * of money 1 2) (sym count-is ∙ none) ∙ nothing (of money 1 2));
+      }
+    where
+      nothing : (n : ℕ) → 0 * n ≡ 0
+      nothing n = omega arith
+
+-- an order that waits is worth something, so that where nothing waits no order does
+module _ (route : Route) where
+  worthless : (money : Money) (fee : ℕ) (rows : List Row) → of money false (eqb fee 0) ≡ true → waitingOf route money fee rows .sum ≡ 0
+  worthless K fee rows h = absurd (false≢true h)
+  worthless O fee [] h = refl
+  worthless O fee (row ∷ rows) h =
+      let rest = worthless O fee rows h in
+      let here = by (waitsOn route O row) fee (eqb-true fee 0 h) in
+      omega arith
+    where
+      by : (t : Bool) (n : ℕ) → n ≡ 0 → when t n ≡ 0
+      by true n none = none
+      by false n none = refl
+
+  module _ (money : Money) (fee : ℕ) (stage : Stage) (worth-it : of money false (eqb fee 0) ≡ false) where
+    least : (row : Row) → rowSound stage row ≡ true → 1 ≤ worth money fee row
+    unfolding rowSound
+    least row sound = by money worth-it
+      where
+        by : (money : Money) → of money false (eqb fee 0) ≡ false → 1 ≤ worth money fee row
+        by K h = leb-true 1 (row .amount .0) (search halves)
+        by O h = let some = eqb-false fee 0 h in omega arith
+
+    unwaited : (rows : List Row) → rowsSound stage rows ≡ true → waitingOf route money fee rows .sum ≡ 0 → waitingOf route money fee rows .count ≡ 0
+    unfolding rowsSound
+    unwaited [] sound none = refl
+    unwaited (row ∷ rows) sound none =
+        let rest = unwaited rows (search halves) (omega arith) in
+        let here = by (waitsOn route money row) (worth money fee row) (least row (search halves)) (omega arith) in
+        omega arith
+      where
+        by : (t : Bool) (n : ℕ) → 1 ≤ n → when t n ≡ 0 → when t 1 ≡ 0
+        by true n some none = absurd (omega arith)
+        by false n some none = refl
 
 module _ (m : List ℕ) (i k : ℕ) {head : List ℕ} (is-head : head ≡ headBytes m i) where
   abbrev s : Shipment
@@ -94,35 +188,53 @@ module _ (m : List ℕ) (i k : ℕ) {head : List ℕ} (is-head : head ≡ headBy
       undelivered-fee-at fee = refused-at (ask-yes _ 19 _ _ (paired-test ∙ held) ∙ ask-no _ 22 _ _ (ap not (sym is-barred ∙ fee)))
 
       -- "Anything above zero to return? 23"
-      module _ (free : barred ≡ false) {n fee : ℕ} (is-count : n ≡ numberAt 2 head 30) (is-fee : fee ≡ numberAt 4 head 24)
-          {found : Waiting} (is-found : found ≡ waitingOf route money fee (rowsFrom m k n)) where
-        found-is : found ≡ waitingOf route money (s .fee) (s .rows)
-        unfolding shipmentIn
-        found-is = is-found ∙ rw (count-is is-count, is-fee, is-head)
-
-        sum-is : waiting route money s ≡ found .sum
-        unfolding waiting
-        sum-is = sym (ap (λ (waiting : Waiting). waiting .sum) found-is)
-
-        orders-waiting-are : waitingOrders route money s ≡ found .count
-        unfolding waitingOrders
-        orders-waiting-are = sym (ap (λ (waiting : Waiting). waiting .count) found-is)
-
-        pub nothing-at : found .sum ≡ 0 → ActAt m i k (returnedBy route money) (Refused 23) m
+      module _ (free : barred ≡ false) where
+        nothing-to-return : waiting route money s ≡ 0 → ActAt m i k (returnedBy route money) (Refused 23) m
         unfolding returnedBy
-        nothing-at nothing =
+        nothing-to-return nothing =
             refused-at
             (ask-yes _ 19 _ _ (paired-test ∙ held)
             ∙ ask-yes _ 22 _ _ (ap not (sym is-barred ∙ free))
-            ∙ ask-no _ 23 _ _ (ap (ltb 0) (sum-is ∙ nothing)))
+            ∙ ask-no _ 23 _ _ (ap (ltb 0) nothing))
 
-        pub returned-at : {m′ : List ℕ} → Sits m i k → 0 < found .sum → RowsReturned route money k n m m′
-            → ActAt m i k (returnedBy route money) (Returned (found .sum) (found .count)) m′
-        unfolding returnedBy shipmentIn
-        returned-at sits some cleared =
-            let all : RowsReturned route money k (ordersAt m i) m _ = rw (count-is is-count) at cleared in
-            rows-changed refl (all .only i) (all .heads i (sits .few)) (rows-mapped m _ (afterReturn route money) k (ordersAt m i) (all .rows))
-            (ask-yes _ 19 _ _ (paired-test ∙ held)
-            ∙ ask-yes _ 22 _ _ (ap not (sym is-barred ∙ free))
-            ∙ ask-yes _ 23 _ _ (ap (ltb 0) sum-is ∙ lt-ltb 0 (found .sum) some)
-            ∙ ap (λ answer. leave answer (withRows (map (afterReturn route money) (s .rows)) s)) (λ t. Returned (sum-is t) (orders-waiting-are t)))
+        module _ {fee : ℕ} (is-fee : fee ≡ numberAt 4 head 24) {worth-nothing : Bool} (is-worth : worth-nothing ≡ of money false (eqb fee 0)) where
+          fee-there : fee ≡ s .fee
+          fee-there = is-fee ∙ fee-is m i k is-head
+
+          worth-there : of money false (eqb (s .fee) 0) ≡ worth-nothing
+          worth-there = sym (is-worth ∙ ap (λ fee. of money false (eqb fee 0)) fee-there)
+
+          pub worthless-at : worth-nothing ≡ true → ActAt m i k (returnedBy route money) (Refused 23) m
+          unfolding waiting
+          worthless-at h = nothing-to-return (worthless route money (s .fee) (s .rows) (worth-there ∙ h))
+
+          module _ (worth-it : worth-nothing ≡ false) {n : ℕ} (is-count : n ≡ numberAt 2 head 30) (sits : Sits m i k)
+              {m′ : List ℕ} {found : Waiting} (cleared : Cleared route money fee k n m m′ found) where
+            found-is : found ≡ waitingOf route money (s .fee) (s .rows)
+            unfolding shipmentIn
+            found-is = cleared .found ∙ rw (count-is is-count, fee-there)
+
+            sum-is : waiting route money s ≡ found .sum
+            unfolding waiting
+            sum-is = sym (ap (λ (waiting : Waiting). waiting .sum) found-is)
+
+            orders-waiting-are : waitingOrders route money s ≡ found .count
+            unfolding waitingOrders
+            orders-waiting-are = sym (ap (λ (waiting : Waiting). waiting .count) found-is)
+
+            pub nothing-at : found .sum ≡ 0 → ActAt m i k (returnedBy route money) (Refused 23) m′
+            unfolding waiting waitingOrders
+            nothing-at nothing =
+                let sound = in-order s (sits .sound) .rows-sound in
+                let no-order = unwaited route money (s .fee) (s .stage) (worth-there ∙ worth-it) (s .rows) sound (sum-is ∙ nothing) in
+                rw (cleared .still (sym orders-waiting-are ∙ no-order)) (nothing-to-return (sum-is ∙ nothing))
+
+            pub returned-at : 0 < found .sum → ActAt m i k (returnedBy route money) (Returned (found .sum) (found .count)) m′
+            unfolding returnedBy shipmentIn
+            returned-at some =
+                let all : RowsReturned route money k (ordersAt m i) m _ = rw (count-is is-count) at (cleared .returned) in
+                rows-changed refl (all .only i) (all .heads i (sits .few)) (rows-mapped m _ (afterReturn route money) k (ordersAt m i) (all .rows))
+                (ask-yes _ 19 _ _ (paired-test ∙ held)
+                ∙ ask-yes _ 22 _ _ (ap not (sym is-barred ∙ free))
+                ∙ ask-yes _ 23 _ _ (ap (ltb 0) sum-is ∙ lt-ltb 0 (found .sum) some)
+                ∙ ap (λ answer. leave answer (withRows (map (afterReturn route money) (s .rows)) s)) (λ t. Returned (sum-is t) (orders-waiting-are t)))

@@ -1,21 +1,17 @@
 -- What waits in rows, as code adds it up; and rows as a return leaves them. Only the contracts of the routes need these.
+use mathlib.Core.Path.{_≡_}
 use mathlib.Core.List.{List}
-use Prim.Native.Nat.{ℕ, _+_}
+use Prim.Native.Nat.{ℕ, _+_, _*_}
 use Rattle.money.specs.declared.Money.{Money}
 use Rattle.model.specs.Shipment.{when, sum, worth}
 use Rattle.model.specs.Calls.{waitsOn, afterReturn}
 use Rattle.model.specs.declared.Route.{Route}
 use Rattle.model.specs.declared.Row.{Row}
 use Rattle.memory.specs.Layout.{rowBytes}
-use Rattle.memory.specs.Rows.{rowOf}
+use Rattle.memory.specs.Rows.{rowOf, RowReturned}
+use Rattle.memory.specs.Read.{rowsFrom}
 use Rattle.book.specs.declared.route.Waiting.{Waiting}
 use Rattle.book.specs.Place.{RowsStored}
-
-abbrev pub withOrder : Waiting → Route → Money → ℕ → Row → Waiting
-withOrder waiting route money fee row = record {
-  sum = waiting .sum + when (waitsOn route money row) (worth money fee row);
-  count = waiting .count + when (waitsOn route money row) 1;
-}
 
 abbrev pub waitingOf : Route → Money → ℕ → List Row → Waiting
 waitingOf route money fee rows = record {
@@ -23,6 +19,19 @@ waitingOf route money fee rows = record {
   count = sum (λ (row : Row). when (waitsOn route money row) 1) rows;
 }
 
+-- Row k is as a return leaves it. What was taken from its byte of state is counted, and as many times the order's worth added up.
+pub record RowCleared (route : Route) (money : Money) (fee k : ℕ) (before : Waiting) (m m′ : List ℕ) (after : Waiting) : Type 0 where
+  pub taken : ℕ
+  pub row : RowReturned route money k m m′ taken
+  pub added : after .sum ≡ before .sum + worth money fee (rowOf (rowBytes m k)) * taken
+  pub counted : after .count ≡ before .count + taken
+
 -- Each of n rows from the k-th on is as a return leaves it, and nothing else moves.
 abbrev pub RowsReturned : Route → Money → ℕ → ℕ → List ℕ → List ℕ → Type 0
 RowsReturned route money k n m m′ = RowsStored (λ r. afterReturn route money (rowOf (rowBytes m r))) k n m m′
+
+-- And what waited in them is found. Where it was of no order, no byte moves.
+pub record Cleared (route : Route) (money : Money) (fee k n : ℕ) (m m′ : List ℕ) (waited : Waiting) : Type 0 where
+  pub found : waited ≡ waitingOf route money fee (rowsFrom m k n)
+  pub returned : RowsReturned route money k n m m′
+  pub still : waited .count ≡ 0 → m′ ≡ m

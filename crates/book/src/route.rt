@@ -1,4 +1,4 @@
-// OPR, ZPR and ZZR: what waits in a shipment's orders is added up, and waits no more.
+// OPR, ZPR and ZZR: what waits in a shipment's orders waits no more, and is added up on the way.
 use crate::answer::Returning;
 use crate::refusals;
 use memory::head::fee;
@@ -8,7 +8,8 @@ use memory::head::orders;
 use memory::row::amount;
 use memory::row::row_bytes;
 use memory::row::store_return;
-use memory::row::waits_on;
+use memory::row::wait_of;
+use memory::row::wait_table;
 use model::Route;
 use money::Amount;
 use money::Fee;
@@ -16,15 +17,16 @@ use money::Money;
 ghost use mathlib.Core.Path.{_≡_};
 ghost use mathlib.Core.Bool.{false, true};
 ghost use Prim.Native.Nat.{_+_, _≤_, _<_, _^_};
+ghost use lib.Dec.{eqb};
 ghost use lib.ListN.{length};
 ghost use Rattle.model.specs.Shipment.{of, worth};
 ghost use Rattle.model.specs.Calls.{Returned, isZprWithO, returnedBy};
+ghost use Rattle.model.specs.declared.Route.{Route};
 ghost use Rattle.memory.specs.Layout.{size};
-ghost use Rattle.memory.specs.Rows.{rowOf};
-ghost use Rattle.memory.specs.Read.{rowsFrom};
+ghost use Rattle.memory.specs.Rows.{rowOf, WaitTable, IsWaitTable};
 ghost use Rattle.book.specs.Answers.{returningOf};
 ghost use Rattle.book.specs.Place.{Sits, ActAt};
-ghost use Rattle.book.specs.Waiting.{waitingOf, withOrder, RowsReturned};
+ghost use Rattle.book.specs.Waiting.{RowCleared, Cleared};
 
 // What waits, and in how many orders.
 pub struct Waiting {
@@ -43,41 +45,55 @@ fn worth_of(row: &[u8], money: Money, fee: u64) -> u64
     }
 }
 
-// What waits with one order more.
-fn with_order(waiting: Waiting, row: &[u8], route: Route, money: Money, fee: u64) -> Waiting
-    requires { ⌜ (length (now row) ≡ 8) × (fee < 2 ^ 32) × (waiting .sum < 2 ^ 60) × (waiting .count < 2 ^ 60) ⌝ }
-    ensures { λ r. ⌜ (r ≡ withOrder waiting route money fee (rowOf (now (row .entry)))) × (r .sum < waiting .sum + 2 ^ 32) × (r .count ≤ waiting .count + 1) ⌝ }
+// Takes out of row k the wait that a table of waits of a money says of it. What it took is counted, and as often the order's worth is added.
+fn clear_row(
+    memory: &mut [u8],
+    k: usize,
+    taken: Waiting,
+    money: Money,
+    fee: u64,
+    table: &[u8],
+) -> Waiting
+    requires { ⌜ (k < 2_048) × (size ≤ length (now memory)) × (fee < 2 ^ 32) × IsWaitTable (now table) × (taken .sum < 2 ^ 60) × (taken .count < 2 ^ 60) ⌝ }
+    ensures { λ r. ⌜ ((route : Route) → WaitTable route money (now (table .entry)) → RowCleared route money fee k taken (now (memory .entry)) (now (memory .exit)) r) × (r .sum < taken .sum + 2 ^ 34) × (r .count ≤ taken .count + 2) ⌝ }
 {
-    if !waits_on(row, route, money) {
-        return waiting;
-    }
-    let sum = waiting.sum + worth_of(row, money, fee);
-    let count = waiting.count + 1;
+    let worth = worth_of(row_bytes(memory, k), money, fee);
+    let took = store_return(memory, k, table);
+    let sum = taken.sum + worth * took;
+    let count = taken.count + took;
     Waiting {
         sum: sum,
         count: count,
     }
 }
 
-// What waits in the n rows from the k-th on.
-fn waiting_in(memory: &[u8], k: usize, n: usize, route: Route, money: Money, fee: u64) -> Waiting
+// Ends every wait of a money on a route in the n rows from the k-th on, and answers what waited.
+// A row asks no question: it counts a wait by what that adds to the byte of state, and the sums are divided by it at the end.
+fn clear(memory: &mut [u8], k: usize, n: usize, route: Route, money: Money, fee: u64) -> Waiting
     requires { ⌜ (k + n ≤ 2_048) × (size ≤ length (now memory)) × (fee < 2 ^ 32) ⌝ }
-    ensures { λ r. ⌜ r ≡ waitingOf route money fee (rowsFrom (now (memory .entry)) k n) ⌝ }
+    ensures { λ r. ⌜ Cleared route money fee k n (now (memory .entry)) (now (memory .exit)) r ⌝ }
 {
-    let mut waiting = Waiting { sum: 0, count: 0 };
-    for seen in 0..n {
-        waiting = with_order(waiting, row_bytes(memory, k + seen), route, money, fee);
+    let table = wait_table(route, money);
+    let mut taken = Waiting { sum: 0, count: 0 };
+    for done in 0..n {
+        taken = clear_row(memory, k + done, taken, money, fee, &table);
     }
-    waiting
+    let wait = wait_of(money) as u64;
+    let sum = taken.sum / wait;
+    let count = taken.count / wait;
+    Waiting {
+        sum: sum,
+        count: count,
+    }
 }
 
-// Nothing of a money waits on a route any more, in the n rows from the k-th on.
-fn clear(memory: &mut [u8], k: usize, n: usize, route: Route, money: Money)
-    requires { ⌜ (k + n ≤ 2_048) × (size ≤ length (now memory)) ⌝ }
-    ensures { λ _. ⌜ RowsReturned route money k n (now (memory .entry)) (now (memory .exit)) ⌝ }
+// Is every order worth nothing in a money? In K none is, in O all are where the fee is 0.
+fn are_worth_nothing(money: Money, fee: u64) -> bool
+    ensures { λ r. ⌜ r ≡ of money false (eqb fee 0) ⌝ }
 {
-    for done in 0..n {
-        store_return(memory, k + done, route, money);
+    match money {
+        Money::K => false,
+        Money::O => fee == 0,
     }
 }
 
@@ -126,12 +142,15 @@ pub fn return_at(memory: &mut [u8], i: usize, k: usize, route: Route, money: Mon
         return Returning::Refused(refusals::UNDELIVERED_FEE);
     }
     let n = orders(head) as usize;
-    let waiting = waiting_in(memory, k, n, route, money, fee(head));
+    let fee = fee(head);
+    if are_worth_nothing(money, fee) {
+        return Returning::Refused(refusals::NOTHING_TO_RETURN);
+    }
+    let waiting = clear(memory, k, n, route, money, fee);
     let sum = waiting.sum;
     let count = waiting.count;
     if sum == 0 {
         return Returning::Refused(refusals::NOTHING_TO_RETURN);
     }
-    clear(memory, k, n, route, money);
     returning(money, sum, count)
 }

@@ -6,12 +6,12 @@ use mathlib.Core.List.{List, [], _∷_}
 use Prim.Native.Nat.{ℕ, zero, suc, _+_, _-_, _/_, _%_, _<_, _≤_}
 use native.Mathlib.Numerals.{add-one}
 use native.Mathlib.Omega.{arith}
-use borrow.Author.Tests.{eqb-true, leb-true, ne-eqb}
+use borrow.Author.Tests.{eqb-true, eqb-false, leb-true, ne-eqb}
 use lib.Dec.{eqb, leb}
-use lib.ListN.{length, getD, set}
-use lib.Seq.{getD-set-same, getD-set-other}
+use lib.ListN.{length, getD, set, drop, length-set}
+use lib.Seq.{getD-set-same, getD-set-other, getD-take, getD-drop, set-getD}
 use Rattle.text.specs.Bytes.{same}
-use Rattle.text.proofs.Branches.{and-left, and-right}
+use Rattle.text.proofs.Branches.{and-left, and-right, either-way}
 use Rattle.text.proofs.Same.{same-equal}
 use Rattle.calendar.proofs.Computed.{below, each}
 use Rattle.money.specs.declared.Money.{Money}
@@ -26,7 +26,7 @@ use Rattle.model.specs.declared.State.the-variants.{Open, Posted, Paid, Faulty,
 use Rattle.memory.specs.Number.{numberAt}
 use Rattle.memory.specs.Layout.{size, rowAt, rowBytes}
 use Rattle.memory.specs.Rows.{kWaits, oWaits, stateOf, rowOf, codeOf, withCodeAt, StateIsReadBack, CodeStored}
-use Rattle.memory.specs.Rows.{waitsIn, stateAfter, routeHas, codeWaits, codeAfter, RowReturned, classOf, listed, classTable}
+use Rattle.memory.specs.Rows.{waitsIn, stateAfter, routeHas, codeWaits, waitIn, codeAfter, WaitTable, RowReturned, classOf, listed, classTable}
 use Rattle.memory.proofs.Parts.{part-long, row-byte, row-byte-only}
 
 -- a state in numbers and back, so that two states can be compared by computation
@@ -162,10 +162,10 @@ module _ (route : Route) (money : Money) (code : ℕ) (byte : code < 256) where
   unfolding returned-right
   right = each (returned-right route money) 256 (returned-each route money) code byte
 
-  pub waits-by-code : codeWaits route money code ≡ waitsIn route money (stateOf code)
+  waits-by-code : codeWaits route money code ≡ waitsIn route money (stateOf code)
   waits-by-code = agree-equal _ _ (and-left waiting after right)
 
-  pub after-by-code : stateOf (codeAfter route money code) ≡ stateAfter route money (stateOf code)
+  after-by-code : stateOf (codeAfter route money code) ≡ stateAfter route money (stateOf code)
   after-by-code = alike-equal _ _ (and-right waiting after right)
 
 returned-row : (route : Route) (money : Money) (row : Row) → withState (stateAfter route money (row .state)) row ≡ afterReturn route money row
@@ -175,39 +175,77 @@ returned-row route money row = by (waitsOn route money row)
     by true = refl
     by false = refl
 
-pub row-returned : (route : Route) (money : Money) (m : List ℕ) (k code : ℕ) → k < 2_048 → size ≤ length m
-    → stateOf code ≡ stateAfter route money (stateOf (getD (rowBytes m k) 4 0)) → RowReturned route money k m (withCodeAt m k code)
-unfolding rowOf
-row-returned route money m k code there enough state =
-    let row = rowOf (rowBytes m k) in
-    record {
-      row = code-stored m k code .row there enough ∙ ap (λ x. withState x row) state ∙ returned-row route money row;
-      only = code-stored m k code .only there;
+-- and by the table of a route and a money
+module _ (route : Route) (money : Money) (table : List ℕ) (is-table : WaitTable route money table) (code : ℕ) (byte : code < 256) where
+  pub taken-few : getD table code 0 ≤ 2
+  taken-few = rw (is-table .told code byte) (by (codeWaits route money code) money)
+    where
+      by : (t : Bool) (money : Money) → when t (of money 1 2) ≤ 2
+      by true K = omega arith
+      by true O = omega arith
+      by false money = omega arith
+
+  pub taken-within : getD table code 0 ≤ code
+  taken-within = rw (is-table .told code byte) (by (codeWaits route money code) refl)
+    where
+      least : (money : Money) → codeWaits route money code ≡ true → of money 1 2 ≤ code
+      least K h = omega (arith, eqb-true (code % 2) 1 (and-right (routeHas route code) (kWaits code) h))
+      least O h = omega (arith, eqb-true (code / 2 % 2) 1 (and-right (routeHas route code) (oWaits code) h))
+
+      by : (t : Bool) → codeWaits route money code ≡ t → when t (of money 1 2) ≤ code
+      by true h = least money h
+      by false h = omega arith
+
+  module _ (m : List ℕ) (k : ℕ) (there : k < 2_048) (enough : size ≤ length m) (code-is : code ≡ getD (rowBytes m k) 4 0) where
+    state-then : stateOf (code - getD table code 0) ≡ stateAfter route money (stateOf (getD (rowBytes m k) 4 0))
+    state-then = rw (is-table .told code byte) (after-by-code route money code byte ∙ ap (λ c. stateAfter route money (stateOf c)) code-is)
+
+    code-there : code ≡ getD m (rowAt k + 4) 0
+    unfolding rowBytes
+    code-there = code-is ∙ getD-take 8 (drop (rowAt k) m) 4 0 (omega arith) ∙ getD-drop (rowAt k) m 4 0
+
+    pub row-returned : RowReturned route money k m (withCodeAt m k (code - getD table code 0)) (getD table code 0)
+    unfolding rowOf withCodeAt
+    row-returned =
+        let stored = code-stored m k (code - getD table code 0) in
+        let row = rowOf (rowBytes m k) in
+        record {
+          row = stored .row there enough ∙ ap (λ x. withState x row) state-then ∙ returned-row route money row;
+          only = stored .only there;
+          took = is-table .told code byte
+              ∙ ap (λ t. when t (of money 1 2)) (waits-by-code route money code byte ∙ ap (λ c. waitsIn route money (stateOf c)) code-is);
+          still = λ none.
+              ap (λ n. set m (rowAt k + 4) (code - n)) none ∙ ap (set m (rowAt k + 4)) (none-taken code ∙ code-there) ∙ set-getD m (rowAt k + 4) 0;
+        }
+      where
+        none-taken : (n : ℕ) → n - 0 ≡ n
+        none-taken n = omega arith
+
+-- as code makes it, byte after byte
+pub record ToldBelow (route : Route) (money : Money) (n : ℕ) (table : List ℕ) : Type 0 where
+  pub long : length table ≡ 256
+  pub within : n ≤ 256
+  pub told : (code : ℕ) → code < n → getD table code 0 ≡ waitIn route money code
+
+module _ {route : Route} {money : Money} where
+  pub told-none : {table : List ℕ} → length table ≡ 256 → ToldBelow route money 0 table
+  told-none long = record { long = long; within = omega arith; told = λ code below. absurd (omega arith) }
+
+  module _ {n : ℕ} {table : List ℕ} (so-far : ToldBelow route money n table) where
+    pub told-more : {wait : ℕ} → n < 256 → wait ≡ waitIn route money n → ToldBelow route money (n + 1) (set table n wait)
+    told-more {wait} more wait-is = record {
+      long = length-set table n wait ∙ so-far .long;
+      within = omega arith;
+      told = λ code below.
+          either-way (eqb code n)
+          (λ here. rw (eqb-true code n here) (getD-set-same table n wait 0 (omega (arith, so-far .long)) ∙ wait-is))
+          (λ there.
+          let apart = eqb-false code n there in
+          getD-set-other table n code wait 0 apart ∙ so-far .told code (omega arith));
     }
 
--- as code asks, and as it takes a wait away
-module _ (route : Route) (money : Money) (code : ℕ) where
-  pub waits-told : (r : Bool) → code < 256 → r ≡ codeWaits route money code → (r ≡ codeWaits route money code) × (r ≡ waitsIn route money (stateOf code))
-  waits-told r byte told = (told, told ∙ waits-by-code route money code byte)
-
-  pub wait-within : (r : Bool) (wait : ℕ) → r ≡ codeWaits route money code → r ≡ true → wait ≡ of money 1 2 → wait ≤ code
-  wait-within r wait told held size-is = omega (arith, size-is, by money (sym told ∙ held))
-    where
-      by : (money : Money) → codeWaits route money code ≡ true → of money 1 2 ≤ code
-      by K h = omega (arith, eqb-true (code % 2) 1 (and-right (routeHas route code) (kWaits code) h))
-      by O h = omega (arith, eqb-true (code / 2 % 2) 1 (and-right (routeHas route code) (oWaits code) h))
-
-  pub wait-taken : (r : Bool) (wait : ℕ) → code < 256 → r ≡ codeWaits route money code → r ≡ true → wait ≡ of money 1 2
-      → stateOf (code - wait) ≡ stateAfter route money (stateOf code)
-  wait-taken r wait byte told held size-is =
-      ap (λ n. stateOf (code - n)) (size-is ∙ ap (λ t. when t (of money 1 2)) (sym held ∙ told)) ∙ after-by-code route money code byte
-
-  pub none-taken : (r : Bool) → code < 256 → r ≡ codeWaits route money code → r ≡ false → stateOf code ≡ stateAfter route money (stateOf code)
-  none-taken r byte told unheld =
-      ap stateOf (zero-taken code) ∙ ap (λ t. stateOf (code - when t (of money 1 2))) (sym unheld ∙ told) ∙ after-by-code route money code byte
-    where
-      zero-taken : (n : ℕ) → n ≡ n - 0
-      zero-taken n = omega arith
+    pub told-all : 256 ≤ n → WaitTable route money table
+    told-all all = record { long = so-far .long; told = λ code byte. so-far .told code (omega arith) }
 
 -- the table of classes, at each byte
 listed-from : (f : ℕ → ℕ) (from n k : ℕ) → k < n → getD (listed f from n) k 0 ≡ f (from + k)

@@ -10,7 +10,7 @@ use Rattle.money.specs.declared.Money.{Money}
 use Rattle.memory.specs.Number.{numberAt}
 use Rattle.memory.specs.Layout.{size, rowAt, rowBytes, OnlyRow}
 use Rattle.model.specs.Shipment.{of, when, isFaulty, waits}
-use Rattle.model.specs.Calls.{withState, takes, cleared, afterReturn}
+use Rattle.model.specs.Calls.{withState, takes, waitsOn, cleared, afterReturn}
 use Rattle.model.specs.Sound.{faultInRange, beforePairing}
 use Rattle.model.specs.declared.Route.{Route}
 use Rattle.model.specs.declared.Route.the-variants.{Zwr, Opr, Zpr, Zzr}
@@ -86,13 +86,29 @@ routeHas Zzr code = between 8 11 code
 abbrev pub codeWaits : Route → Money → ℕ → Bool
 codeWaits route money code = routeHas route code && of money (kWaits code) (oWaits code)
 
-abbrev pub codeAfter : Route → Money → ℕ → ℕ
-codeAfter route money code = code - when (codeWaits route money code) (of money 1 2)
+abbrev pub waitIn : Route → Money → ℕ → ℕ
+waitIn route money code = when (codeWaits route money code) (of money 1 2)
 
--- Row k is as a return leaves it, and nothing else moves.
-pub record RowReturned (route : Route) (money : Money) (k : ℕ) (m m′ : List ℕ) : Type 0 where
+abbrev pub codeAfter : Route → Money → ℕ → ℕ
+codeAfter route money code = code - waitIn route money code
+
+-- The table of a route and a money: what the wait of the money on the route adds to each byte, 0 where there is none.
+pub record WaitTable (route : Route) (money : Money) (table : List ℕ) : Type 0 where
+  pub long : length table ≡ 256
+  pub told : (code : ℕ) → code < 256 → getD table code 0 ≡ waitIn route money code
+
+-- The table of some route and some money.
+pub record IsWaitTable (table : List ℕ) : Type 0 where
+  pub route : Route
+  pub money : Money
+  pub is : WaitTable route money table
+
+-- Row k is as a return leaves it, and nothing else moves. Where nothing was taken from its byte of state, no byte moves.
+pub record RowReturned (route : Route) (money : Money) (k : ℕ) (m m′ : List ℕ) (taken : ℕ) : Type 0 where
   pub row : rowOf (rowBytes m′ k) ≡ afterReturn route money (rowOf (rowBytes m k))
   pub only : OnlyRow k m m′
+  pub took : taken ≡ when (waitsOn route money (rowOf (rowBytes m k))) (of money 1 2)
+  pub still : taken ≡ 0 → m′ ≡ m
 
 -- What soundness asks of a state, as one number to add up over a shipment's rows: 1 where it is Faulty, 4,096 more where only a Paired shipment may
 -- have it, 16,777,216 more where its fault is out of range.

@@ -9,10 +9,11 @@ use text::bytes::is_between;
 ghost use mathlib.Core.Path.{_≡_};
 ghost use Prim.Native.Nat.{_+_, _*_, _-_, _/_, _%_, _≤_, _<_, _^_};
 ghost use lib.ListN.{length};
+ghost use Rattle.money.specs.declared.Money.{Money};
 ghost use Rattle.model.specs.Shipment.{of};
-ghost use Rattle.model.specs.Calls.{waitsOn};
+ghost use Rattle.model.specs.declared.Route.{Route};
 ghost use Rattle.memory.specs.Layout.{size, rowBytes};
-ghost use Rattle.memory.specs.Rows.{kWaits, oWaits, stateOf, rowOf, waitsCode, waitsIn, stateAfter, codeOf, withCodeAt, routeHas, codeWaits, RowReturned, classOf, classTable};
+ghost use Rattle.memory.specs.Rows.{kWaits, oWaits, stateOf, rowOf, waitsCode, codeOf, withCodeAt, routeHas, codeWaits, waitIn, WaitTable, IsWaitTable, RowReturned, classOf, classTable};
 
 pub const ROWS: usize = 2_112;
 
@@ -206,17 +207,40 @@ fn money_waits(money: Money, code: u8) -> bool
 
 // Does a money wait on a route, by the byte?
 fn code_waits(route: Route, money: Money, code: u8) -> bool
-    ensures { λ r. ⌜ (r ≡ codeWaits route money code) × (r ≡ waitsIn route money (stateOf code)) ⌝ }
+    ensures { λ r. ⌜ r ≡ codeWaits route money code ⌝ }
 {
     route_has(route, code) && money_waits(money, code)
 }
 
-// Does a money of the order wait on a route?
-pub fn waits_on(row: &[u8], route: Route, money: Money) -> bool
-    requires { ⌜ length (now row) ≡ 8 ⌝ }
-    ensures { λ r. ⌜ r ≡ waitsOn route money (rowOf (now (row .entry))) ⌝ }
+// What the wait of a money adds to a byte of state.
+pub fn wait_of(money: Money) -> u8
+    ensures { λ r. ⌜ (r ≡ of money 1 2) × (1 ≤ r) × (r ≤ 2) ⌝ }
 {
-    code_waits(route, money, row[4])
+    match money {
+        Money::K => 1,
+        Money::O => 2,
+    }
+}
+
+// What the wait of a money on a route adds to the byte, 0 where there is none.
+fn wait_in(route: Route, money: Money, code: u8) -> u8
+    ensures { λ r. ⌜ r ≡ waitIn route money code ⌝ }
+{
+    if code_waits(route, money, code) {
+        return wait_of(money);
+    }
+    0
+}
+
+// What the wait of a money on a route adds to each byte of state. The table is made once for many rows, and lent.
+pub fn wait_table(route: Route, money: Money) -> [u8; 256]
+    ensures { λ r. ⌜ WaitTable route money r ⌝ }
+{
+    let mut table = [0u8; 256];
+    for code in 0..256 {
+        table[code] = wait_in(route, money, code as u8);
+    }
+    table
 }
 
 // The byte of two waits.
@@ -269,32 +293,13 @@ pub fn store_state(memory: &mut [u8], k: usize, state: State)
     store_code(memory, k, code);
 }
 
-// What the wait of a money adds to a byte of state.
-fn wait_of(money: Money) -> u8
-    ensures { λ r. ⌜ r ≡ of money 1 2 ⌝ }
-{
-    match money {
-        Money::K => 1,
-        Money::O => 2,
-    }
-}
-
-// The byte of a state whose money waits on a route no more.
-fn code_after(route: Route, money: Money, code: u8) -> u8
-    ensures { λ r. ⌜ stateOf r ≡ stateAfter route money (stateOf code) ⌝ }
-{
-    if code_waits(route, money, code) {
-        return code - wait_of(money);
-    }
-    code
-}
-
-// Stores in row k that a money waits on a route no more.
-pub fn store_return(memory: &mut [u8], k: usize, route: Route, money: Money)
-    requires { ⌜ (k < 2_048) × (size ≤ length (now memory)) ⌝ }
-    ensures { λ _. ⌜ RowReturned route money k (now (memory .entry)) (now (memory .exit)) ⌝ }
+// Takes out of row k the wait that a table of waits says of it, and answers what it took from the byte of state.
+pub fn store_return(memory: &mut [u8], k: usize, table: &[u8]) -> u64
+    requires { ⌜ (k < 2_048) × (size ≤ length (now memory)) × IsWaitTable (now table) ⌝ }
+    ensures { λ r. ⌜ ((route : Route) (money : Money) → WaitTable route money (now (table .entry)) → RowReturned route money k (now (memory .entry)) (now (memory .exit)) r) × (r ≤ 2) ⌝ }
 {
     let code = row_bytes(memory, k)[4];
-    let after = code_after(route, money, code);
-    store_code(memory, k, after);
+    let taken = table[code as usize];
+    store_code(memory, k, code - taken);
+    taken as u64
 }

@@ -1,5 +1,5 @@
 -- `book::route::return_at` asks document 01's questions in turn.
-use Rattle.book.proofs.Returns.{room-at, unpaired-at, undelivered-fee-at, nothing-at, returned-at}
+use Rattle.book.proofs.Returns.{room-at, unpaired-at, undelivered-fee-at, worthless-at, nothing-at, returned-at}
 use borrow.Author.Tests.{not-true, not-false}
 use native.Mathlib.Omega.{arith}
 use borrow.Author.Needs.{needs}
@@ -42,23 +42,16 @@ orders-requires c κs = search needs
 fee-requires : tie.Need-fee-requires
 fee-requires c κs = search needs
 
-waiting-in-requires : tie.Need-waiting-in-requires
-waiting-in-requires c κs =
-    let counted = c .before in
-    let head = counted .before .before .before .before .before in
-    let start = head .before .before .before in (
-      room-at (start .args .memory .now) (start .args .i) (start .args .k) (head .head-bytes .ensures .0) (counted .orders .ensures .0) (start .pre),
-      search needs,
-      search needs,
-    )
+are-worth-nothing-requires : tie.Need-are-worth-nothing-requires
+are-worth-nothing-requires c κs = search needs
 
 same-length-3 : tie.Need-same-length-3
 same-length-3 c = search needs
 
 returns-3 : tie.Need-returns-3
 returns-3 c =
-    let waits = c .before in
-    let priced = waits .before in
+    let worth = c .before in
+    let priced = worth .before in
     let counted = priced .before in
     let else-barred = counted .before in
     let barred = else-barred .before in
@@ -66,9 +59,9 @@ returns-3 c =
     let paired = else-paired .before in
     let head = paired .before in
     let start = head .before .before .before .args in
-    nothing-at (start .memory .now) (start .i) (start .k) (head .head-bytes .ensures .0) (start .route) (start .money)
+    worthless-at (start .memory .now) (start .i) (start .k) (head .head-bytes .ensures .0) (start .route) (start .money)
     (paired .is-paired .ensures) (not-false _ (else-paired .if1 .left)) (barred .is-zpr-with-o .ensures) (else-barred .if2 .left)
-    (counted .orders .ensures .0) (priced .fee .ensures .0) (waits .waiting-in .ensures) (c .if3 .taken)
+    (priced .fee .ensures .0) (worth .are-worth-nothing .ensures) (c .if3 .taken)
 
 clear-requires : tie.Need-clear-requires
 clear-requires c κs =
@@ -77,10 +70,8 @@ clear-requires c κs =
     let start = head .before .before .before in (
       room-at (start .args .memory .now) (start .args .i) (start .args .k) (head .head-bytes .ensures .0) (counted .orders .ensures .0) (start .pre),
       search needs,
+      search needs,
     )
-
-returning-requires : tie.Need-returning-requires
-returning-requires c κs = search needs
 
 same-length-4 : tie.Need-same-length-4
 same-length-4 c = search needs
@@ -88,9 +79,34 @@ same-length-4 c = search needs
 returns-4 : tie.Need-returns-4
 returns-4 c =
     let cleared = c .before .before .before in
-    let else-nothing = cleared .before .before in
-    let waits = else-nothing .before in
-    let priced = waits .before in
+    let else-worth = cleared .before .before in
+    let worth = else-worth .before in
+    let priced = worth .before in
+    let counted = priced .before in
+    let else-barred = counted .before in
+    let barred = else-barred .before in
+    let else-paired = barred .before in
+    let paired = else-paired .before in
+    let head = paired .before in
+    let start = head .before .before .before in
+    nothing-at (start .args .memory .now) (start .args .i) (start .args .k) (head .head-bytes .ensures .0) (start .args .route) (start .args .money)
+    (paired .is-paired .ensures) (not-false _ (else-paired .if1 .left)) (barred .is-zpr-with-o .ensures) (else-barred .if2 .left)
+    (priced .fee .ensures .0) (worth .are-worth-nothing .ensures) (else-worth .if3 .left)
+    (counted .orders .ensures .0) (start .pre) (cleared .clear .ensures) (c .if4 .taken)
+
+returning-requires : tie.Need-returning-requires
+returning-requires c κs = search needs
+
+same-length-5 : tie.Need-same-length-5
+same-length-5 c = search needs
+
+returns-5 : tie.Need-returns-5
+returns-5 c =
+    let else-nothing = c .before in
+    let cleared = else-nothing .before .before .before in
+    let else-worth = cleared .before .before in
+    let worth = else-worth .before in
+    let priced = worth .before in
     let counted = priced .before in
     let else-barred = counted .before in
     let barred = else-barred .before in
@@ -101,8 +117,8 @@ returns-4 c =
     rw (c .returning .ensures)
     (returned-at (start .args .memory .now) (start .args .i) (start .args .k) (head .head-bytes .ensures .0) (start .args .route) (start .args .money)
     (paired .is-paired .ensures) (not-false _ (else-paired .if1 .left)) (barred .is-zpr-with-o .ensures) (else-barred .if2 .left)
-    (counted .orders .ensures .0) (priced .fee .ensures .0) (waits .waiting-in .ensures)
-    (start .pre) (omega (arith, else-nothing .if3 .left)) (cleared .clear .ensures))
+    (priced .fee .ensures .0) (worth .are-worth-nothing .ensures) (else-worth .if3 .left)
+    (counted .orders .ensures .0) (start .pre) (cleared .clear .ensures) (omega (arith, else-nothing .if4 .left)))
 
 pub return-at-spec : {M : Type 1} → statement M
 return-at-spec =
@@ -117,10 +133,12 @@ return-at-spec =
     returns-2
     orders-requires
     fee-requires
-    waiting-in-requires
+    are-worth-nothing-requires
     same-length-3
     returns-3
     clear-requires
-    returning-requires
     same-length-4
-    returns-4)
+    returns-4
+    returning-requires
+    same-length-5
+    returns-5)

@@ -1,6 +1,5 @@
 -- `memory::row::code_waits` asks both tests.
 use Rattle.text.proofs.Branches.{branches}
-use Rattle.memory.proofs.RowLaws.{waits-told}
 use borrow.Author.Needs.{needs}
 use Rattle.memory.proofs.row.code_waits.Statement.{statement}
 use Rattle.memory.proofs.row.code_waits.Tie as tie
@@ -12,10 +11,10 @@ money-waits-requires : tie.Need-money-waits-requires
 money-waits-requires c κs = search needs
 
 returns : tie.Need-returns
-returns c = let start = c .before .before .before .args in waits-told (start .route) (start .money) (start .code) _ (search needs) (search branches depth 12)
+returns c = search branches depth 12
 
 returns-2 : tie.Need-returns-2
-returns-2 c = let start = c .before .before .args in waits-told (start .route) (start .money) (start .code) _ (search needs) (search branches depth 12)
+returns-2 c = search branches depth 12
 
 pub code-waits-spec : {M : Type 1} → statement M
 code-waits-spec = tie.close (tie.spec route-has-requires money-waits-requires returns returns-2)
