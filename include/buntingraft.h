@@ -27,7 +27,7 @@
  * Nothing is kept when a call returns.
  *
  * That is all a caller owes. Every call answers, whatever the bytes and numbers are. The library allocates nothing, has no
- * state of its own, and takes less than 16 KiB of stack, so calls on different books may run at the same time.
+ * state of its own, and takes less than 24 KiB of stack, so calls on different books may run at the same time.
  *
  *
  * What a call answers

@@ -1,17 +1,15 @@
 -- An intake that has come to its contents: its orders, its head and its number are stored, or a question refuses it.
 -- Assumes nothing.
 use mathlib.Core.Path.{_≡_, refl, sym, ap, _∙_}
-use mathlib.Core.List.{List, [], _∷_, map}
+use mathlib.Core.List.{List, _∷_, map}
 use mathlib.Core.Logic.{inl}
 use Prim.Native.Nat.{ℕ, zero, suc, _+_, _-_, _≤_, _<_, _^_}
 use native.Mathlib.Numerals.{add-one}
 use native.Mathlib.Omega.{arith}
-use lib.ListN.{length, getD, set, length-set}
+use lib.ListN.{getD, set, length-set}
 use lib.Seq.{getD-set-same, getD-set-other}
-use Rattle.epe.specs.Contents.{orders}
-use Rattle.epe.specs.Walk.{TakenIs}
 use Rattle.epe.specs.Accepted.{OrderInRange, EachInRange}
-use Rattle.epe.specs.declared.file.Taken.{Taken}
+use Rattle.epe.specs.Kept.{orderIn, ordersIn}
 use Rattle.epe.specs.declared.name.Name.{Name}
 use Rattle.epe.specs.declared.record.Order.{Order}
 use Rattle.model.specs.Book.{enteredRow, newShipment, rowsIn}
@@ -21,47 +19,50 @@ use Rattle.memory.specs.Enter.{OrderEntered, HeadEntered}
 use Rattle.memory.specs.Read.{rowsFrom, shipmentAt, shipmentsFrom, bookIn}
 use Rattle.memory.proofs.Parts.{number-heads, number-rows}
 use Rattle.book.specs.Place.{RowsStored}
-use Rattle.book.specs.Entering.{noneTaken, rowFor, Fits, ShipmentEntered}
+use Rattle.book.specs.Entering.{rowFor, Fits, ShipmentEntered}
 use Rattle.book.proofs.Storing.{one-more-stored}
 use Rattle.book.proofs.Appending.{appended, flags-alike}
 
--- each order of a file in range
-order-in-range : (l : List Order) (j : ℕ) → EachInRange l → j < length l → OrderInRange (getD l j noneTaken)
-order-in-range [] j all within = absurd (omega arith)
-order-in-range (order ∷ l) zero all within = all .0
-order-in-range (order ∷ l) (suc j) all within = order-in-range l j (all .1) (omega arith)
+-- each order of a table in range
+order-in-range : (kept : List ℕ) (j n i : ℕ) → EachInRange (ordersIn kept j n) → i < n → OrderInRange (orderIn kept (j + i))
+unfolding ordersIn
+order-in-range kept j zero i all within = absurd (omega arith)
+order-in-range kept j (suc n) zero all within = let here : j + 0 ≡ j = omega arith in rw here (all .0)
+order-in-range kept j (suc n) (suc i) all within =
+    let next : j + suc i ≡ j + 1 + i = omega arith in rw next (order-in-range kept (j + 1) n i (all .1) (omega arith))
 
-pub taken-in-range : {file : List ℕ} {n : ℕ} {taken : Taken} → EachInRange (orders file) → n < length (orders file) → TakenIs file n taken
-    → (taken .order .amount .0 < 2 ^ 32) × (taken .order .fault ≤ 10)
-taken-in-range {file} {n} {taken} all within is =
-    let range = order-in-range (orders file) n all within in
-    let same = is .it-is noneTaken in
-    (rw same (omega (arith, range .to-the-cap)), rw same (range .fault-known))
+pub kept-in-range : (kept : List ℕ) (n i : ℕ) {order : Order} → EachInRange (ordersIn kept 0 n) → i < n → order ≡ orderIn kept i
+    → (order .amount .0 < 2 ^ 32) × (order .fault ≤ 10)
+kept-in-range kept n i all within is =
+    let here : 0 + i ≡ i = omega arith in
+    let range = rw here at (order-in-range kept 0 n i all within) in
+    rw is (omega (arith, range .to-the-cap), range .fault-known)
 
 -- one order more
-pub one-more-entered : {file l m m′ : List ℕ} {k n : ℕ} {taken : Taken} → RowsStored (rowFor k (orders file)) k n l m → TakenIs file n taken
-    → OrderEntered (taken .order) (k + n) m m′ → RowsStored (rowFor k (orders file)) k (n + 1) l m′
-one-more-entered {file} {l} {m} {m′} {k} {n} rest taken one =
+pub one-more-entered : (kept : List ℕ) {l m m′ : List ℕ} {k n : ℕ} {order : Order} → RowsStored (rowFor k kept) k n l m → order ≡ orderIn kept n
+    → OrderEntered order (k + n) m m′ → RowsStored (rowFor k kept) k (n + 1) l m′
+one-more-entered kept {l} {m} {m′} {k} {n} rest is one =
     let place : k + n - k ≡ n = omega arith in
-    one-more-stored rest
-    (one .row ∙ ap enteredRow (taken .it-is noneTaken ∙ ap (λ j. getD (orders file) j noneTaken) (sym place))) (one .only)
+    one-more-stored rest (one .row ∙ ap enteredRow (is ∙ ap (orderIn kept) (sym place))) (one .only)
 
 -- all orders, as the rows of a shipment
-listed-rows : (m : List ℕ) (l : List Order) (k : ℕ) → ((j : ℕ) → j < length l → rowOf (rowBytes m (k + j)) ≡ enteredRow (getD l j noneTaken))
-    → rowsFrom m k (length l) ≡ map enteredRow l
-unfolding rowsFrom
-listed-rows m [] k each = refl
-listed-rows m (order ∷ l) k each =
-    let here : k + 0 ≡ k = omega arith in
-    let first : rowOf (rowBytes m k) ≡ enteredRow order = ap (λ r. rowOf (rowBytes m r)) (sym here) ∙ each 0 (omega arith) in
-    let rest = listed-rows m l (suc k) (λ j within.
-    let next : suc k + j ≡ k + suc j = omega arith in
-    ap (λ r. rowOf (rowBytes m r)) next ∙ each (suc j) (omega arith)) in
+listed-rows : (m kept : List ℕ) (k j n : ℕ) → ((i : ℕ) → i < n → rowOf (rowBytes m (k + i)) ≡ enteredRow (orderIn kept (j + i)))
+    → rowsFrom m k n ≡ map enteredRow (ordersIn kept j n)
+unfolding rowsFrom ordersIn
+listed-rows m kept k j zero each = refl
+listed-rows m kept k j (suc n) each =
+    let row : k + 0 ≡ k = omega arith in
+    let entry : j + 0 ≡ j = omega arith in
+    let first : rowOf (rowBytes m k) ≡ enteredRow (orderIn kept j) = rw (row, entry) at (each 0 (omega arith)) in
+    let rest = listed-rows m kept (suc k) (j + 1) n (λ i within.
+    let next-row : suc k + i ≡ k + suc i = omega arith in
+    let next-entry : j + 1 + i ≡ j + suc i = omega arith in
+    rw (next-row, next-entry) (each (suc i) (omega arith))) in
     λ t. first t ∷ rest t
 
 -- then the head, and the number of shipments
-module _ (m m₁ m₂ : List ℕ) (i k : ℕ) (name : Name) (fee n : ℕ) (file : List ℕ) (fits : Fits m i k name fee n file)
-    (stored : RowsStored (rowFor k (orders file)) k n m m₁) (head : HeadEntered name fee n i m₁ m₂) where
+module _ (m m₁ m₂ : List ℕ) (i k : ℕ) (name : Name) (fee n : ℕ) (kept : List ℕ) (fits : Fits m i k name fee n kept)
+    (stored : RowsStored (rowFor k kept) k n m m₁) (head : HeadEntered name fee n i m₁ m₂) where
   abbrev m′ : List ℕ
   m′ = set m₂ 0 (i + 1)
 
@@ -76,27 +77,26 @@ module _ (m m₁ m₂ : List ℕ) (i k : ℕ) (name : Name) (fee n : ℕ) (file 
   rows-before : (r : ℕ) → r < k → rowBytes m′ r ≡ rowBytes m r
   rows-before r before = number-rows m₂ (i + 1) r ∙ head .only .rows r ∙ stored .only i .other-rows r (inl before)
 
-  rows-new : rowsFrom m′ k n ≡ map enteredRow (orders file)
+  rows-new : rowsFrom m′ k n ≡ map enteredRow (ordersIn kept 0 n)
   rows-new =
-      rw (fits .all)
-      (listed-rows m′ (orders file) k (λ j within.
-      let place : k + j - k ≡ j = omega arith in
+      listed-rows m′ kept k 0 n (λ j within.
+      let place : k + j - k ≡ 0 + j = omega arith in
       ap rowOf (number-rows m₂ (i + 1) (k + j) ∙ head .only .rows (k + j))
-      ∙ stored .rows (k + j) (omega arith) (omega (arith, fits .all))
-      ∙ ap (λ p. enteredRow (getD (orders file) p noneTaken)) place))
+      ∙ stored .rows (k + j) (omega arith) (omega arith)
+      ∙ ap (λ p. enteredRow (orderIn kept p)) place)
 
-  shipment-new : shipmentAt m′ i k ≡ newShipment name fee (map enteredRow (orders file))
+  shipment-new : shipmentAt m′ i k ≡ newShipment name fee (map enteredRow (ordersIn kept 0 n))
   shipment-new =
       rw (number-heads m₂ (i + 1) i, head .orders)
       (head .shipment (rowsFrom m′ k n) ∙ ap (newShipment name fee) rows-new)
 
-  pub shipment-entered : ShipmentEntered (newShipment name fee (map enteredRow (orders file))) m m′
+  pub shipment-entered : ShipmentEntered (newShipment name fee (map enteredRow (ordersIn kept 0 n))) m m′
   unfolding bookIn
   shipment-entered = record {
     book =
         rw number-is
         (rw (← fits .last)
-        (appended m m′ i (newShipment name fee (map enteredRow (orders file))) heads-before
+        (appended m m′ i (newShipment name fee (map enteredRow (ordersIn kept 0 n))) heads-before
         (λ r before. rows-before r (omega (arith, fits .from, from-is)))
         (rw (← from-is) shipment-new)));
     flags = λ h.

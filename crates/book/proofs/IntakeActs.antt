@@ -5,7 +5,7 @@ use mathlib.Core.Bool.{Bool, true, false, cond, false≢true}
 use mathlib.Core.List.{List, [], _∷_, map}
 use Prim.Native.Nat.{ℕ, zero, suc, _+_, _-_, _≤_, _<_, _^_}
 use native.Mathlib.Omega.{arith}
-use borrow.Author.Tests.{leb-true, le-leb, lt-leb, le-ltb, lt-ltb}
+use borrow.Author.Tests.{leb-true, leb-false, le-leb, lt-leb, le-ltb, lt-ltb}
 use lib.Dec.{leb, ltb}
 use lib.ListN.{length, getD}
 use Rattle.text.proofs.Branches.{and-left, and-right, either-way}
@@ -14,14 +14,18 @@ use Rattle.epe.specs.Name.{nameOf, nameInForm}
 use Rattle.epe.specs.Profile.{feesFit, profileFits}
 use Rattle.epe.specs.Opening.{opening, openingOf}
 use Rattle.epe.specs.Contents.{contents, orders, faultyCount, judgedOf}
+use Rattle.epe.specs.Accepted.{EachInRange}
+use Rattle.epe.specs.Kept.{ordersIn, keptFrom}
 use Rattle.epe.specs.declared.file.Opening.{Opening}
 use Rattle.epe.specs.declared.file.Judged.{Judged}
 use Rattle.epe.specs.declared.file.Judged.the-variants as judged
 use Rattle.epe.specs.declared.name.Name.{Name}
 use Rattle.epe.specs.declared.profile.Profile.{Profile}
+use Rattle.epe.specs.declared.record.Order.{Order}
 use Rattle.epe.specs.declared.verdict.Verdict.{Verdict}
 use Rattle.epe.specs.declared.verdict.Verdict.the-variants.{Passed, Refused as No}
 use Rattle.epe.proofs.AcceptedAsStated.{accepted-as-stated}
+use Rattle.epe.proofs.Keeping.{kept-in-order}
 use Rattle.model.specs.Shipment.{Shipment}
 use Rattle.model.specs.Calls.{Call, Intake, Answer, Refused, Accepted}
 use Rattle.model.specs.Book.{Book, Step, stay, inquire, unlessRefused, isUnknown, rowsIn, enteredRow, newShipment, entered, takenIn, step}
@@ -59,16 +63,22 @@ inquire-no : (t : Bool) (number : ℕ) (book : Book) (next : Step) → t ≡ fal
 unfolding inquire
 inquire-no t number book next h = rw h
 
--- a file that passed its questions, for a book of i shipments
-module _ (m : List ℕ) (i : ℕ) (name : Name) (fee : ℕ) (file : List ℕ) (opened : Opened m i name fee) where
+-- where there are too many orders no shipment is entered, whatever it would be
+too-many : (s s′ : Shipment) (n faulty : ℕ) (book : Book) → 2_048 < n → enteredIn s n faulty book ≡ enteredIn s′ n faulty book
+too-many s s′ n faulty book many =
+    let full = lt-leb (rowsIn book + n) 2048 (omega arith) in
+    ap (inquire (ltb (length book) 32) 903 book) (inquire-no _ 904 _ _ full ∙ sym (inquire-no _ 904 _ _ full))
+
+-- n orders that a table keeps, for a book of i shipments
+module _ (m : List ℕ) (i : ℕ) (name : Name) (fee n faulty : ℕ) (kept : List ℕ) (opened : Opened m i name fee) where
   abbrev new : Shipment
-  new = newShipment name fee (map enteredRow (orders file))
+  new = newShipment name fee (map enteredRow (ordersIn kept 0 n))
 
   book-length : length (bookIn m) ≡ i
   unfolding bookIn
   book-length = shipments-many m 0 0 (shipmentsIn m) ∙ sym (opened .last)
 
-  pub no-shipment-left : 32 ≤ i → DoesEnter Passed new (orders file) m (Refused 903) m
+  pub no-shipment-left : 32 ≤ i → DoesEnter Passed new n faulty m (Refused 903) m
   unfolding unlessRefused
   no-shipment-left full = record {
     by-call = λ call stepped.
@@ -86,31 +96,31 @@ module _ (m : List ℕ) (i : ℕ) (name : Name) (fee : ℕ) (file : List ℕ) (o
     few-enough : ltb (length (bookIn m)) 32 ≡ true
     few-enough = lt-ltb (length (bookIn m)) 32 (omega (arith, book-length))
 
-    module _ {n faulty : ℕ} (counted : Counted n faulty file) where
-      pub no-row-left : 2_048 - k < n → DoesEnter Passed new (orders file) m (Refused 904) m
+    module _ (counted : Counted n kept) where
+      pub no-row-left : 2_048 - k < n → DoesEnter Passed new n faulty m (Refused 904) m
       unfolding unlessRefused
       no-row-left full = record {
         by-call = λ call stepped.
             stays (opened .sound)
             (stepped
             ∙ inquire-yes _ 903 _ _ few-enough
-            ∙ inquire-no _ 904 _ _ (lt-leb (rowsIn (bookIn m) + length (orders file)) 2048 (omega (arith, from-is, counted .all, from-within))));
+            ∙ inquire-no _ 904 _ _ (lt-leb (rowsIn (bookIn m) + n) 2048 (omega (arith, from-is, from-within))));
       }
 
-      pub fits-behind : n ≤ 2_048 - k → Fits m i k name fee n file
+      pub fits-behind : n ≤ 2_048 - k → Fits m i k name fee n kept
       fits-behind room = record {
         enough = sound-parts m (opened .sound) .enough;
         last = opened .last;
         few = few;
         from = from-is;
         room = omega (arith, from-within);
-        all = counted .all;
-        in-range = counted .in-range;
+        all = omega (arith, counted .enough);
+        in-range = counted .in-range (omega arith);
         in-form = opened .in-form;
         fee-fits = opened .fee-fits;
       }
 
-      pub entered-behind : {m′ : List ℕ} → n ≤ 2_048 - k → ShipmentEntered new m m′ → DoesEnter Passed new (orders file) m (Accepted n faulty) m′
+      pub entered-behind : {m′ : List ℕ} → n ≤ 2_048 - k → ShipmentEntered new m m′ → DoesEnter Passed new n faulty m (Accepted n faulty) m′
       unfolding unlessRefused soundIn
       entered-behind {m′} room done = record {
         by-call = λ call stepped.
@@ -118,8 +128,8 @@ module _ (m : List ℕ) (i : ℕ) (name : Name) (fee : ℕ) (file : List ℕ) (o
             let taken : step (bookIn m) call ≡ record { book = bookIn m′; answer = Accepted n faulty }
             = stepped
             ∙ inquire-yes _ 903 _ _ few-enough
-            ∙ inquire-yes _ 904 _ _ (le-leb (rowsIn (bookIn m) + length (orders file)) 2048 (omega (arith, from-is, counted .all, from-within)))
-            ∙ (λ t. record { book = sym (done .book) t; answer = Accepted (sym (counted .all) t) (sym (counted .faulty-ones) t) }) in
+            ∙ inquire-yes _ 904 _ _ (le-leb (rowsIn (bookIn m) + n) 2048 (omega (arith, from-is, from-within)))
+            ∙ (λ t. record { book = sym (done .book) t; answer = Accepted n faulty }) in
             let enough = le-leb size (length m′) (rw (done .as-long) (parts .enough)) in
             let book : sound (bookIn m′) ≡ true = rw taken at (stays-sound .keeps (bookIn m) call (parts .book)) in
             does-step (opened .sound) (rw (enough, done .flags (parts .flags), book)) taken (λ refusal. absurd (false≢true refusal)) (done .behind) (done .as-long);
@@ -130,6 +140,9 @@ module _ (m : List ℕ) (i : ℕ) (profile : Profile) (name : Name) (file : List
     (last : i ≡ shipmentsIn m) (in-form : nameInForm name ≡ true) {fee : ℕ} (is-fee : fee ≡ getD (profile .fees) (name .kind) 0) where
   pub opened : Opened m i name fee
   opened = record { sound = is-sound; last = last; in-form = in-form; fee-fits = omega (arith, is-fee, fee-below profile (name .kind) fits) }
+
+  abbrev of-orders : List Order → Shipment
+  of-orders os = newShipment name fee (map enteredRow os)
 
   passed-or-not : (verdict : Verdict) (n faulty : ℕ) → judgedOf verdict (orders file) ≡ judged.Accepted n faulty
       → (verdict ≡ Passed) × ((n ≡ length (orders file)) × (faulty ≡ faultyCount (orders file)))
@@ -144,29 +157,42 @@ module _ (m : List ℕ) (i : ℕ) (profile : Profile) (name : Name) (file : List
 
   module _ {result : Judged} (is-result : result ≡ judgedOf (contents profile file) (orders file)) where
     pub contents-refused : {number : ℕ} → result ≡ judged.Refused number
-        → DoesEnter (contents profile file) (entered profile name (orders file)) (orders file) m (Refused number) m
+        → DoesEnter (contents profile file) (entered profile name (orders file)) (length (orders file)) (faultyCount (orders file)) m (Refused number) m
     unfolding unlessRefused
     contents-refused {number} refused = record {
       by-call = λ call stepped.
           let verdict = refused-with (contents profile file) number (sym is-result ∙ refused) in
-          stays is-sound (stepped ∙ ap (λ v. unlessRefused v (bookIn m) (enteredIn (entered profile name (orders file)) (orders file) (bookIn m))) verdict);
+          stays is-sound (stepped ∙ ap (λ v. unlessRefused v (bookIn m) (enteredIn (entered profile name (orders file)) (length (orders file)) (faultyCount (orders file)) (bookIn m))) verdict);
     }
 
-    module _ {n faulty : ℕ} (accepted : result ≡ judged.Accepted n faulty) where
+    module _ {n faulty : ℕ} (accepted : result ≡ judged.Accepted n faulty) (table : List ℕ) {kept : List ℕ} (enough : 2_048 ≤ length table)
+        (is-kept : contents profile file ≡ Passed → kept ≡ keptFrom table 0 (orders file)) (as-long : length kept ≡ length table) where
       passed : (contents profile file ≡ Passed) × ((n ≡ length (orders file)) × (faulty ≡ faultyCount (orders file)))
       passed = passed-or-not (contents profile file) n faulty (sym is-result ∙ accepted)
 
-      pub counted : Counted n faulty file
-      counted = record {
-        all = passed .1 .0;
-        faulty-ones = passed .1 .1;
-        in-range = accepted-as-stated profile file (passed .0) .in-range;
-      }
+      in-range : EachInRange (orders file)
+      in-range = accepted-as-stated profile file (passed .0) .in-range
 
-      pub contents-accepted : {answer : Answer} {m′ : List ℕ} → DoesEnter Passed (newShipment name fee (map enteredRow (orders file))) (orders file) m answer m′
-          → DoesEnter (contents profile file) (entered profile name (orders file)) (orders file) m answer m′
+      -- the orders are in the table, if they are no more than a book has rows
+      in-table : n ≤ 2_048 → ordersIn kept 0 n ≡ orders file
+      in-table few =
+          let all = passed .1 .0 in
+          rw (is-kept (passed .0), all) (kept-in-order table (orders file) in-range (omega arith))
+
+      pub counted : Counted n kept
+      counted = record { enough = omega arith; in-range = λ few. rw (in-table few) in-range }
+
+      entered-alike : enteredIn (of-orders (orders file)) n faulty (bookIn m) ≡ enteredIn (of-orders (ordersIn kept 0 n)) n faulty (bookIn m)
+      entered-alike =
+          either-way (leb n 2048) (λ few. ap (λ os. enteredIn (of-orders os) n faulty (bookIn m)) (sym (in-table (leb-true n 2048 few))))
+          (λ many. too-many (of-orders (orders file)) (of-orders (ordersIn kept 0 n)) n faulty (bookIn m) (leb-false n 2048 many))
+
+      pub contents-accepted : {answer : Answer} {m′ : List ℕ} → DoesEnter Passed (of-orders (ordersIn kept 0 n)) n faulty m answer m′
+          → DoesEnter (contents profile file) (entered profile name (orders file)) (length (orders file)) (faultyCount (orders file)) m answer m′
       unfolding entered
-      contents-accepted enters = rw (passed .0, ← is-fee) enters
+      contents-accepted enters =
+          rw (passed .0, ← is-fee, ← passed .1 .0, ← passed .1 .1)
+          (record { by-call = λ call stepped. enters .by-call call (stepped ∙ ap (unlessRefused Passed (bookIn m)) entered-alike) })
 
 -- the questions before the contents
 module _ (m : List ℕ) (profile : Profile) (name file : List ℕ) where
@@ -199,7 +225,8 @@ module _ (m : List ℕ) (profile : Profile) (name file : List ℕ) where
 
         pub contents-next : isUnknown (nameOf name .ident) (bookIn m) ≡ true
             → step (bookIn m) call
-            ≡ unlessRefused (contents profile file) (bookIn m) (enteredIn (entered profile (nameOf name) (orders file)) (orders file) (bookIn m))
+            ≡ unlessRefused (contents profile file) (bookIn m)
+            (enteredIn (entered profile (nameOf name) (orders file)) (length (orders file)) (faultyCount (orders file)) (bookIn m))
         unfolding step takenIn inquire unlessRefused
         contents-next unknown = rw (fits, passed, unknown)
 
@@ -231,9 +258,10 @@ module _ (m : List ℕ) (profile : Profile) (name file : List ℕ) where
           known-at known = known-refused held (sym verdict-is ∙ passed) (unknown-test ∙ known)
 
           pub taken-at : unknown ≡ true → {answer : Answer} {m′ : List ℕ}
-              → DoesEnter (contents profile file) (entered profile (opened-file .name) (orders file)) (orders file) m answer m′ → Does m call answer m′
+              → DoesEnter (contents profile file) (entered profile (opened-file .name) (orders file)) (length (orders file)) (faultyCount (orders file)) m answer m′
+              → Does m call answer m′
           taken-at new enters =
               enters .by-call call
               (contents-next held (sym verdict-is ∙ passed) (unknown-test ∙ new)
-              ∙ ap (λ (n : Name). unlessRefused (contents profile file) (bookIn m) (enteredIn (entered profile n (orders file)) (orders file) (bookIn m)))
+              ∙ ap (λ (n : Name). unlessRefused (contents profile file) (bookIn m) (enteredIn (entered profile n (orders file)) (length (orders file)) (faultyCount (orders file)) (bookIn m)))
               (sym name-is))

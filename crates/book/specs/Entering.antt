@@ -6,10 +6,9 @@ use Prim.Native.Nat.{ℕ, _+_, _-_, _≤_, _<_, _^_}
 use lib.Dec.{leb, ltb}
 use lib.ListN.{length, getD}
 use Rattle.epe.specs.Name.{nameInForm}
-use Rattle.epe.specs.Contents.{orders, faultyCount}
 use Rattle.epe.specs.Accepted.{EachInRange}
+use Rattle.epe.specs.Kept.{orderIn, ordersIn}
 use Rattle.epe.specs.declared.name.Name.{Name}
-use Rattle.epe.specs.declared.record.Order.{Order}
 use Rattle.epe.specs.declared.verdict.Verdict.{Verdict}
 use Rattle.model.specs.Shipment.{Shipment}
 use Rattle.model.specs.Calls.{Call, Answer, Accepted}
@@ -19,22 +18,19 @@ use Rattle.memory.specs.Layout.{size}
 use Rattle.memory.specs.Read.{shipmentsIn, flagsFrom, bookIn, soundIn}
 use Rattle.book.specs.Does.{Does}
 
--- The row of the order that a file has for it, where the first is row k.
-abbrev pub noneTaken : Order
-noneTaken = record { amount = record { 0 = 0 }; fault = 0 }
-
-abbrev pub rowFor : ℕ → List Order → ℕ → Row
-rowFor k orders r = enteredRow (getD orders (r - k) noneTaken)
+-- The row of the order that a table keeps for it, where the first is row k.
+abbrev pub rowFor : ℕ → List ℕ → ℕ → Row
+rowFor k kept r = enteredRow (orderIn kept (r - k))
 
 -- There is room for a shipment as the i-th, its rows from the k-th on, and all that is to be entered is in its form.
-pub record Fits (m : List ℕ) (i k : ℕ) (name : Name) (fee n : ℕ) (file : List ℕ) : Type 0 where
+pub record Fits (m : List ℕ) (i k : ℕ) (name : Name) (fee n : ℕ) (kept : List ℕ) : Type 0 where
   pub enough : size ≤ length m
   pub last : i ≡ shipmentsIn m
   pub few : i < 32
   pub from : k ≡ rowsIn (bookIn m)
   pub room : k + n ≤ 2_048
-  pub all : n ≡ length (orders file)
-  pub in-range : EachInRange (orders file)
+  pub all : n ≤ length kept
+  pub in-range : EachInRange (ordersIn kept 0 n)
   pub in-form : nameInForm name ≡ true
   pub fee-fits : fee < 2 ^ 32
 
@@ -45,12 +41,12 @@ pub record ShipmentEntered (s : Shipment) (m m′ : List ℕ) : Type 0 where
   pub behind : (j : ℕ) → size ≤ j → getD m′ j 0 ≡ getD m j 0
   pub as-long : length m′ ≡ length m
 
--- "Fewer than 32 shipments in the book? 903. Its orders fit with those present in 2,048 rows? 904", and then it is entered.
-abbrev pub enteredIn : Shipment → List Order → Book → Step
-enteredIn s orders book =
+-- "Fewer than 32 shipments in the book? 903. Its orders fit with those present in 2,048 rows? 904", and then it is entered, with n orders.
+abbrev pub enteredIn : Shipment → ℕ → ℕ → Book → Step
+enteredIn s n faulty book =
     inquire (ltb (length book) 32) 903 book
-    (inquire (leb (rowsIn book + length orders) 2048) 904 book
-    (stay (Accepted (length orders) (faultyCount orders)) (book ++ (s ∷ []))))
+    (inquire (leb (rowsIn book + n) 2048) 904 book
+    (stay (Accepted n faulty) (book ++ (s ∷ []))))
 
 -- A file for a book of i shipments: the book is sound, and the name and the fee are in form.
 pub record Opened (m : List ℕ) (i : ℕ) (name : Name) (fee : ℕ) : Type 0 where
@@ -59,13 +55,12 @@ pub record Opened (m : List ℕ) (i : ℕ) (name : Name) (fee : ℕ) : Type 0 wh
   pub in-form : nameInForm name ≡ true
   pub fee-fits : fee < 2 ^ 32
 
--- Its contents passed: n orders, each in range, so many of them faulty.
-pub record Counted (n faulty : ℕ) (file : List ℕ) : Type 0 where
-  pub all : n ≡ length (orders file)
-  pub faulty-ones : faulty ≡ faultyCount (orders file)
-  pub in-range : EachInRange (orders file)
+-- Its contents passed: a table keeps its n orders, each in range, unless they are more than a book has rows.
+pub record Counted (n : ℕ) (kept : List ℕ) : Type 0 where
+  pub enough : 2_048 ≤ length kept
+  pub in-range : n ≤ 2_048 → EachInRange (ordersIn kept 0 n)
 
 -- What an intake promises that has come so far: its contents decide, then the room.
-pub record DoesEnter (verdict : Verdict) (s : Shipment) (orders : List Order) (before : List ℕ) (answer : Answer) (after : List ℕ) : Type 0 where
-  pub by-call : (call : Call) → step (bookIn before) call ≡ unlessRefused verdict (bookIn before) (enteredIn s orders (bookIn before))
+pub record DoesEnter (verdict : Verdict) (s : Shipment) (n faulty : ℕ) (before : List ℕ) (answer : Answer) (after : List ℕ) : Type 0 where
+  pub by-call : (call : Call) → step (bookIn before) call ≡ unlessRefused verdict (bookIn before) (enteredIn s n faulty (bookIn before))
       → Does before call answer after

@@ -4,11 +4,10 @@ use crate::place::Place;
 use crate::place::find_called;
 use crate::refusals;
 use epe::file::Judged;
-use epe::file::first_order;
 use epe::file::judge_contents;
 use epe::file::open;
-use epe::file::take_order;
 use epe::ident::Ident;
+use epe::kept::order_in;
 use epe::name::Name;
 use epe::profile::Profile;
 use epe::verdict::Verdict;
@@ -25,8 +24,9 @@ ghost use Prim.Native.Nat.{_+_, _≤_, _<_, _^_};
 ghost use lib.ListN.{length, getD};
 ghost use Rattle.epe.specs.Name.{nameInForm};
 ghost use Rattle.epe.specs.Profile.{profileFits};
-ghost use Rattle.epe.specs.Contents.{contents, orders};
+ghost use Rattle.epe.specs.Contents.{contents, orders, faultyCount};
 ghost use Rattle.epe.specs.Accepted.{EachInRange};
+ghost use Rattle.epe.specs.Kept.{ordersIn};
 ghost use Rattle.epe.specs.declared.verdict.Verdict.the-variants.{Passed};
 ghost use Rattle.model.specs.Calls.{Intake};
 ghost use Rattle.model.specs.Book.{isUnknown, rowsIn, enteredRow, newShipment, entered};
@@ -65,31 +65,27 @@ fn is_unknown(memory: &[u8], ident: Ident, n: usize) -> bool
     }
 }
 
-// Enters n orders of a file, in the rows from the k-th on.
-fn enter_orders(memory: &mut [u8], k: usize, n: usize, file: &[u8])
-    requires { ⌜ (k + n ≤ 2_048) × (size ≤ length (now memory)) × (n ≤ length (orders (now file))) × EachInRange (orders (now file)) ⌝ }
-    ensures { λ _. ⌜ RowsStored (rowFor k (orders (now (file .entry)))) k n (now (memory .entry)) (now (memory .exit)) ⌝ }
+// Enters the first n orders that a table keeps, in the rows from the k-th on.
+fn enter_orders(memory: &mut [u8], k: usize, n: usize, kept: &[u64])
+    requires { ⌜ (k + n ≤ 2_048) × (size ≤ length (now memory)) × (n ≤ length (now kept)) × EachInRange (ordersIn (now kept) 0 n) ⌝ }
+    ensures { λ _. ⌜ RowsStored (rowFor k (now (kept .entry))) k n (now (memory .entry)) (now (memory .exit)) ⌝ }
 {
-    let mut at = first_order(file);
     for done in 0..n {
-        let taken = take_order(file, at);
-        let order = taken.order;
-        enter_order(memory, k + done, order);
-        at = taken.next;
+        enter_order(memory, k + done, order_in(kept, done));
     }
 }
 
-// Enters a shipment of n orders as the i-th, its rows from the k-th on.
-fn enter(memory: &mut [u8], i: usize, k: usize, name: Name, fee: u64, n: u64, file: &[u8])
-    requires { ⌜ Fits (now memory) i k name fee n (now file) ⌝ }
-    ensures { λ _. ⌜ ShipmentEntered (newShipment name fee (map enteredRow (orders (now (file .entry))))) (now (memory .entry)) (now (memory .exit)) ⌝ }
+// Enters a shipment of the first n orders that a table keeps as the i-th, its rows from the k-th on.
+fn enter(memory: &mut [u8], i: usize, k: usize, name: Name, fee: u64, n: u64, kept: &[u64])
+    requires { ⌜ Fits (now memory) i k name fee n (now kept) ⌝ }
+    ensures { λ _. ⌜ ShipmentEntered (newShipment name fee (map enteredRow (ordersIn (now (kept .entry)) 0 n))) (now (memory .entry)) (now (memory .exit)) ⌝ }
 {
-    enter_orders(memory, k, n as usize, file);
+    enter_orders(memory, k, n as usize, kept);
     enter_head(memory, i, name, fee, n);
     store_shipments(memory, i + 1);
 }
 
-// Enters a shipment of n orders behind the i that there are, if there is room.
+// Enters a shipment of the first n orders that a table keeps behind the i that there are, if there is room.
 fn enter_behind(
     memory: &mut [u8],
     i: usize,
@@ -97,10 +93,10 @@ fn enter_behind(
     fee: u64,
     n: u64,
     faulty: u64,
-    file: &[u8],
+    kept: &[u64],
 ) -> Acceptance
-    requires { ⌜ Opened (now memory) i name fee × Counted n faulty (now file) ⌝ }
-    ensures { λ r. ⌜ DoesEnter Passed (newShipment name fee (map enteredRow (orders (now (file .entry))))) (orders (now (file .entry))) (now (memory .entry)) (acceptanceOf r) (now (memory .exit)) ⌝ }
+    requires { ⌜ Opened (now memory) i name fee × Counted n (now kept) ⌝ }
+    ensures { λ r. ⌜ DoesEnter Passed (newShipment name fee (map enteredRow (ordersIn (now (kept .entry)) 0 n))) n faulty (now (memory .entry)) (acceptanceOf r) (now (memory .exit)) ⌝ }
 {
     if 32 <= i {
         return Acceptance::Refused(refusals::SHIPMENTS);
@@ -109,7 +105,7 @@ fn enter_behind(
     if ((2_048 - k) as u64) < n {
         return Acceptance::Refused(refusals::ROWS);
     }
-    enter(memory, i, k, name, fee, n, file);
+    enter(memory, i, k, name, fee, n, kept);
     Acceptance::Accepted(n, faulty)
 }
 
@@ -122,14 +118,15 @@ fn fee_of(profile: Profile, kind: u64) -> u64
     fees[kind as usize]
 }
 
-// Judges the contents of a file, and enters it behind the i shipments that there are.
+// Judges the contents of a file, and enters it behind the i shipments that there are. Its orders are kept meanwhile, as many as a book has rows.
 fn take_in(memory: &mut [u8], i: usize, profile: Profile, name: Name, file: &[u8]) -> Acceptance
     requires { ⌜ (profileFits profile ≡ true) × (soundIn (now memory) ≡ true) × (i ≡ shipmentsIn (now memory)) × (nameInForm name ≡ true) ⌝ }
-    ensures { λ r. ⌜ DoesEnter (contents profile (now (file .entry))) (entered profile name (orders (now (file .entry)))) (orders (now (file .entry))) (now (memory .entry)) (acceptanceOf r) (now (memory .exit)) ⌝ }
+    ensures { λ r. ⌜ DoesEnter (contents profile (now (file .entry))) (entered profile name (orders (now (file .entry)))) (length (orders (now (file .entry)))) (faultyCount (orders (now (file .entry)))) (now (memory .entry)) (acceptanceOf r) (now (memory .exit)) ⌝ }
 {
     let fee = fee_of(profile, name.kind);
-    match judge_contents(profile, file) {
-        Judged::Accepted(n, faulty) => enter_behind(memory, i, name, fee, n, faulty, file),
+    let mut kept = [0u64; 2_048];
+    match judge_contents(profile, file, &mut kept) {
+        Judged::Accepted(n, faulty) => enter_behind(memory, i, name, fee, n, faulty, &kept),
         Judged::Refused(number) => Acceptance::Refused(number),
     }
 }

@@ -1,32 +1,20 @@
 -- The orders of an accepted file are as its header states them.
 -- Assumes nothing.
 use mathlib.Core.Path.{_≡_, refl, _∙_, ap}
-use mathlib.Core.Bool.{Bool, true, false, cond}
+use mathlib.Core.Bool.{true}
 use mathlib.Core.List.{List, [], _∷_, map}
-use Prim.Native.Nat.{ℕ, _+_, _≤_}
+use Prim.Native.Nat.{ℕ, _+_}
 use native.Mathlib.Omega.{arith}
 use borrow.Author.Tests.{eqb-true, leb-true, ltb-true}
-use lib.Dec.{ltb, lit≤}
+use lib.Dec.{ltb}
 use lib.ListN.{length, length-map}
 use Rattle.text.proofs.Branches.{and-left, and-right}
 use Rattle.money.proofs.Reading.{order-text-bound}
-use Rattle.epe.specs.Questions.{firstNo}
 use Rattle.epe.specs.File.{header, records, field}
-use Rattle.epe.specs.Faults.{faultQuestions, faultIn, faultOf}
 use Rattle.epe.specs.Contents.{amountIn, allPriced, total, statedCount, statedSum, dateQuestions, statedQuestions, recordQuestions, contentsQuestions, contents, orderOf, orders}
 use Rattle.epe.specs.Accepted.{sumOfAmounts, EachInRange, OrdersAsStated, AcceptedAsStated}
-use Rattle.epe.specs.declared.verdict.Verdict.{Verdict}
-use Rattle.epe.specs.declared.verdict.Verdict.the-variants.{Refused}
 use Rattle.epe.proofs.QuestionLaws.{all-yes}
-
--- a fault's number is at most that of the last question
-faults-known : (line : List ℕ) → faultOf line ≤ 10
-unfolding faultOf faultIn firstNo faultQuestions
-faults-known line = search (known, lit≤) depth 30
-  where
-    known : (t : Bool) (v : Verdict) (n : ℕ) → faultIn v ≤ 10 → n ≤ 10 → faultIn (cond t v (Refused n)) ≤ 10
-    known true v n h l = h
-    known false v n h l = l
+use Rattle.epe.proofs.RecordLaws.{fault-known}
 
 orders-add-up : (lines : List (List ℕ)) → sumOfAmounts (map orderOf lines) ≡ total lines
 unfolding sumOfAmounts total orderOf
@@ -38,7 +26,7 @@ unfolding allPriced orderOf
 orders-in-range [] h = tt
 orders-in-range (line ∷ lines) h =
     let priced = ltb-true 0 (amountIn line) (and-left (ltb 0 (amountIn line)) (allPriced lines) h) in (
-      record { from-one = priced; to-the-cap = order-text-bound (field 3 line); fault-known = faults-known line },
+      record { from-one = priced; to-the-cap = order-text-bound (field 3 line); fault-known = fault-known line },
       orders-in-range lines (and-right (ltb 0 (amountIn line)) (allPriced lines) h),
     )
 

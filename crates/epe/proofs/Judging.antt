@@ -4,6 +4,7 @@ use mathlib.Core.Path.{_≡_, refl, sym, _∙_, ap}
 use mathlib.Core.Bool.{Bool, true, false, cond, _&&_}
 use mathlib.Core.List.{List, [], _∷_, _++_, map}
 use Prim.Native.Nat.{ℕ, _+_, _≤_}
+use native.Mathlib.Omega.{arith}
 use borrow.Author.Tests.{leb-true}
 use lib.Dec.{eqb, leb, ltb}
 use lib.ListN.{length, length-map}
@@ -14,6 +15,7 @@ use Rattle.epe.specs.Questions.{Question, firstNo, isPassed}
 use Rattle.epe.specs.Contents.{allShaped, allPriced, total, orderOf, orders, faultyCount, statedCount, statedSum, dateQuestions, statedQuestions, recordQuestions, contentsQuestions, contents, judgedOf}
 use Rattle.epe.specs.File.{header, records}
 use Rattle.epe.specs.Profile.{feesFit, profileFits}
+use Rattle.epe.specs.Kept.{keptFrom}
 use Rattle.epe.specs.Walk.{linesFrom, lineEnd, body}
 use Rattle.epe.specs.Tally.{Tallied, tallyJudged}
 use Rattle.epe.specs.declared.file.Judged.{Judged}
@@ -24,11 +26,11 @@ use Rattle.epe.specs.declared.verdict.Verdict.{Verdict}
 use Rattle.epe.specs.declared.verdict.Verdict.the-variants.{Passed, Refused}
 use Rattle.epe.specs.declared.profile.Profile.{Profile}
 use Rattle.epe.proofs.Asking.{join-no, join-yes}
-use Rattle.epe.proofs.Taking.{next-of}
-use Rattle.epe.proofs.Walking.{header-first, records-after}
+use Rattle.epe.proofs.QuestionLaws.{all-yes}
+use Rattle.epe.proofs.Walking.{next-of, header-first, records-after}
 
 -- the four questions of the records, answered by their tally
-pub tally-judges : (fields : ℕ) (line : List ℕ) (lines : List (List ℕ)) (tally : Tally) → Tallied fields lines tally
+pub tally-judges : (fields : ℕ) (line : List ℕ) (lines : List (List ℕ)) (tally : Tally) {before after : List ℕ} → Tallied fields lines tally before after
     → tallyJudged tally (statedCount line) (statedSum line) ≡ judgedOf (firstNo (recordQuestions fields line lines)) (map orderOf lines)
 unfolding tallyJudged judgedOf firstNo recordQuestions
 tally-judges fields line lines tally tallied =
@@ -80,6 +82,12 @@ pub judged-after : (ps qs : List Question) (os : List Order) → firstNo ps ≡ 
 unfolding isPassed
 judged-after ps qs os e = ap (λ (v : Verdict). judgedOf v os) (join-yes ps qs Passed (sym e) refl)
 
+-- a refusal leaves open what a table keeps
+pub refused-not-passed : {n : ℕ} (verdict : Verdict) (os : List Order) → NotAccepted n ≡ judgedOf verdict os → verdict ≡ Passed → ⊥
+unfolding judgedOf
+refused-not-passed (Refused n) os e h = let never : _≡_ {A = ℕ} 0 1 = cc in omega arith
+refused-not-passed Passed os e h = let never : _≡_ {A = ℕ} 0 1 = cc in omega arith
+
 -- a profile that fits has at most 32 fields to a record
 pub fields-allowed : (profile : Profile) → profileFits profile ≡ true → profile .fields ≤ 32
 unfolding profileFits
@@ -116,14 +124,24 @@ module _ (profile : Profile) (file t line : List ℕ) (end : ℕ) (fits : profil
   unfolding asked
   statement-refused n e = rw behind (judged-early n asked _ (orders file) (rw is-header at e))
 
-  pub records-judged : (tally : Tally) (count sum from : ℕ) → firstNo (dateQuestions (profile .today) line ++ statedQuestions line) ≡ Passed
-      → count ≡ statedCount line → sum ≡ statedSum line
-      → from ≡ cond (ltb end (length t)) (end + 2) (length t + 1) → Tallied (profile .fields) (linesFrom from t) tally
-      → tallyJudged tally count sum ≡ judgedOf (contents profile file) (orders file)
-  unfolding asked orders
-  records-judged tally count sum from e c s f tallied =
-      let all : linesFrom from t ≡ records file = rw (records-after file, next-of t (body file) 0 end same ends from f, same) in
-      let told = rw all at tallied in
-      rw (behind, c, s, is-header)
-      (tally-judges (profile .fields) (header file) (records file) tally told
-      ∙ judged-after asked _ (orders file) (rw is-header at e))
+  module _ {tally : Tally} {from : ℕ} {before after : List ℕ} (begun : from ≡ cond (ltb end (length t)) (end + 2) (length t + 1))
+      (walked : Tallied (profile .fields) (linesFrom from t) tally before after) where
+    tallied : Tallied (profile .fields) (records file) tally before after
+    tallied =
+        let all : linesFrom from t ≡ records file = rw (records-after file, next-of t (body file) 0 end same ends from begun, same) in
+        rw all at walked
+
+    pub records-judged : (count sum : ℕ) → firstNo (dateQuestions (profile .today) line ++ statedQuestions line) ≡ Passed
+        → count ≡ statedCount line → sum ≡ statedSum line → tallyJudged tally count sum ≡ judgedOf (contents profile file) (orders file)
+    unfolding asked orders
+    records-judged count sum e c s =
+        rw (behind, c, s, is-header)
+        (tally-judges (profile .fields) (header file) (records file) tally tallied
+        ∙ judged-after asked _ (orders file) (rw is-header at e))
+
+    -- all lines are shaped where the contents pass
+    pub records-kept : contents profile file ≡ Passed → after ≡ keptFrom before 0 (orders file)
+    unfolding contents contentsQuestions dateQuestions statedQuestions recordQuestions orders
+    records-kept passed =
+        let yes = all-yes (contentsQuestions profile file) passed in
+        tallied .kept (tallied .shape ∙ yes .1 .1 .1 .1 .1 .1 .1 .1 .1 .1 .0)

@@ -6,9 +6,9 @@ pub mod NameLaws
 pub mod Lines
 pub mod RecordLaws
 pub mod Walking
-pub mod Taking
 pub mod Judging
 pub mod AcceptedAsStated
+pub mod Keeping
 pub mod Examples
 pub mod NameExamples
 pub mod RecordExamples

@@ -1,19 +1,22 @@
 -- Laws of a record line's questions: spaces from a field on, and the first fault.
 -- Assumes nothing.
 use mathlib.Core.Path.{_≡_, refl}
-use mathlib.Core.Bool.{Bool, true, false}
+use mathlib.Core.Bool.{Bool, true, false, cond}
 use mathlib.Core.List.{List, [], _∷_}
 use Prim.Native.Nat.{ℕ, zero, suc, _+_, _-_, _<_, _≤_}
 use native.Mathlib.Omega.{arith}
 use borrow.Author.Tests.{le-leb}
+use lib.Dec.{lit≤}
 use lib.ListN.{length, List·getD-eq-default}
 use Rattle.text.proofs.Branches.{told-no, told-yes}
 use Rattle.epe.specs.File.{field}
 use Rattle.epe.specs.Questions.{Question, _⇒_, firstNo}
-use Rattle.epe.specs.Faults.{spaced, unspaced, faultIn}
+use Rattle.epe.specs.Faults.{spaced, unspaced, faultQuestions, faultIn, faultOf}
 use Rattle.epe.specs.Contents.{shaped}
 use Rattle.epe.specs.Tally.{RecordOf}
 use Rattle.epe.specs.declared.record.RecordRead.{RecordRead}
+use Rattle.epe.specs.declared.verdict.Verdict.{Verdict}
+use Rattle.epe.specs.declared.verdict.Verdict.the-variants.{Refused}
 
 pub none-unspaced : (s : List ℕ) → length s ≡ 0 → false ≡ spaced s
 unfolding spaced
@@ -56,6 +59,15 @@ no-fault = refl
 
 -- `search faults depth 12` closes the returns of a function that asks questions in a definition's order.
 pub ruleset faults = (told-no, told-yes, fault-here, fault-later, no-fault)
+
+-- A fault's number is at most that of the last question.
+pub fault-known : (line : List ℕ) → faultOf line ≤ 10
+unfolding faultOf faultIn firstNo faultQuestions
+fault-known line = search (known, lit≤) depth 30
+  where
+    known : (t : Bool) (v : Verdict) (n : ℕ) → faultIn v ≤ 10 → n ≤ 10 → faultIn (cond t v (Refused n)) ≤ 10
+    known true v n h l = h
+    known false v n h l = l
 
 -- What `read_record` says of a line's shape, where a profile allows the number of fields.
 pub shape-of : {r n : ℕ} {line : List ℕ} {read : RecordRead} → RecordOf r n line read → r ≤ 32 → read .shaped ≡ shaped r n line

@@ -1,4 +1,4 @@
--- The walk over a text's lines, one after the other, and the tally that is kept on the way.
+-- The walk over a text's lines, one after the other, and the tally and the table that are kept on the way.
 -- Assumes nothing.
 use mathlib.Core.Path.{_≡_, refl, sym, _∙_, ap}
 use mathlib.Core.Bool.{Bool, true, false, true≢false, cond, not, _&&_}
@@ -8,7 +8,7 @@ use native.Mathlib.Decide.{decLt}
 use native.Mathlib.Omega.{arith}
 use borrow.Author.Tests.{lt-ltb, le-ltb, le-leb, lt-leb, eqb-true}
 use lib.Dec.{eqb, leb, ltb, lit<}
-use lib.ListN.{length, getD, drop}
+use lib.ListN.{length, getD, set, drop, length-set}
 use Rattle.text.specs.Bytes.{same, part}
 use Rattle.text.specs.Quoted.{bytes}
 use Rattle.text.specs.Number.{number, isNumber, valueOf}
@@ -21,11 +21,12 @@ use Rattle.text.proofs.Places.{part-to-end}
 use Rattle.money.proofs.Reading.{order-text-bound}
 use Rattle.epe.specs.File.{text, header, records, field}
 use Rattle.epe.specs.Contents.{shaped, allShaped, amountIn, allPriced, total, orderOf, faultyCount}
+use Rattle.epe.specs.Kept.{Keepable, codeOf, keptFrom}
 use Rattle.epe.specs.Walk.{linesFrom, lineEnd, nextLine, body}
 use Rattle.epe.specs.Tally.{RecordOf, added, Small, Tallied}
 use Rattle.epe.specs.declared.file.Tally.{Tally}
 use Rattle.epe.specs.declared.record.RecordRead.{RecordRead}
-use Rattle.epe.proofs.RecordLaws.{shape-of}
+use Rattle.epe.proofs.RecordLaws.{shape-of, fault-known}
 
 module _ (s : List ℕ) (at : ℕ) where
   here : at ≤ length s → linesFrom at s ≡ parted (drop at s)
@@ -43,6 +44,12 @@ next-inside s at h = rw (lt-ltb (lineEnd at s) (length s) h)
 next-outside : (s : List ℕ) (at : ℕ) → length s ≤ lineEnd at s → nextLine at s ≡ length s + 1
 unfolding nextLine
 next-outside s at h = rw (le-ltb (lineEnd at s) (length s) h)
+
+-- the place of the next line, as the code finds it
+pub next-of : (t s : List ℕ) (at end : ℕ) → t ≡ s → end ≡ lineEnd at t → (next : ℕ)
+    → next ≡ cond (ltb end (length t)) (end + 2) (length t + 1) → next ≡ nextLine at s
+unfolding nextLine
+next-of t s at end same ends next e = rw (ends, same) at e
 
 -- the line at a place, and the lines after it
 pub walk-on : (s : List ℕ) (at : ℕ) → at ≤ length s → linesFrom at s ≡ part at (lineEnd at s) s ∷ linesFrom (nextLine at s) s
@@ -89,27 +96,31 @@ number-few r n line h =
     let e = eqb-true (valueOf seen) n (and-right (isNumber seen) (eqb (valueOf seen) n) told) in
     omega (arith, value-bound (10 ^ 6) seen (lit< tt) (number-bound 1 6 (field 2 line)))
 
--- the tally on the way: with what is left it gives the whole
-pub record Going (fields : ℕ) (lines left : List (List ℕ)) (tally : Tally) : Type 0 where
+-- the tally and the table on the way: with what is left they give the whole
+pub record Going (fields : ℕ) (lines left : List (List ℕ)) (tally : Tally) (before kept : List ℕ) : Type 0 where
   pub begun : tally .shaped ≡ true
   pub shape : allShaped fields (tally .count + 1) left ≡ allShaped fields 1 lines
   pub prices : (tally .priced && allPriced left) ≡ allPriced lines
   pub counted : tally .count + length left ≡ length lines
   pub summed : tally .sum + total left ≡ total lines
   pub faults : tally .faulty + faultyCount (map orderOf left) ≡ faultyCount (map orderOf lines)
+  pub keeping : keptFrom kept (tally .count) (map orderOf left) ≡ keptFrom before 0 (map orderOf lines)
+  pub as-long : length kept ≡ length before
   pub few : tally .count ≤ 999_999
   pub little : tally .sum ≤ tally .count * 999_999_999
   pub fewer : tally .faulty ≤ tally .count
 
-pub going-start : (fields : ℕ) (lines : List (List ℕ)) (tally : Tally)
-    → tally ≡ record { shaped = true; priced = true; count = 0; sum = 0; faulty = 0 } → Going fields lines lines tally
-going-start fields lines tally e = rw e (record {
+pub going-start : (fields : ℕ) (lines : List (List ℕ)) (tally : Tally) (kept : List ℕ)
+    → tally ≡ record { shaped = true; priced = true; count = 0; sum = 0; faulty = 0 } → Going fields lines lines tally kept kept
+going-start fields lines tally kept e = rw e (record {
   begun = refl;
   shape = refl;
   prices = refl;
   counted = omega arith;
   summed = omega arith;
   faults = omega arith;
+  keeping = refl;
+  as-long = refl;
   few = omega arith;
   little = omega arith;
   fewer = omega arith;
@@ -122,7 +133,8 @@ one-at-most false = omega arith
 pub mark-at-most : (fault : ℕ) → cond (eqb fault 0) 0 1 ≤ 1
 mark-at-most fault = one-at-most (eqb fault 0)
 
-module _ (fields : ℕ) (lines left : List (List ℕ)) (line : List ℕ) (tally : Tally) (going : Going fields lines (line ∷ left) tally) where
+module _ (fields : ℕ) (lines left : List (List ℕ)) (line : List ℕ) (tally : Tally) (before kept : List ℕ)
+    (going : Going fields lines (line ∷ left) tally before kept) where
   -- a line that is not shaped settles the question
   pub going-misshaped : shaped fields (tally .count + 1) line ≡ false → allShaped fields 1 lines ≡ false
   unfolding allShaped
@@ -132,9 +144,10 @@ module _ (fields : ℕ) (lines left : List (List ℕ)) (line : List ℕ) (tally 
   and-on true u v = refl
   and-on false u v = refl
 
-  -- a line that is shaped is added
-  pub going-on : shaped fields (tally .count + 1) line ≡ true → Going fields lines left (added tally (orderOf line))
-  unfolding added allShaped allPriced total faultyCount orderOf
+  -- a line that is shaped is added, and its order kept
+  pub going-on : shaped fields (tally .count + 1) line ≡ true
+      → Going fields lines left (added tally (orderOf line)) before (set kept (tally .count) (codeOf (orderOf line)))
+  unfolding added allShaped allPriced total faultyCount keptFrom orderOf
   going-on h =
       let bound = order-text-bound (field 3 line) in
       let small = number-few fields (tally .count + 1) line h in
@@ -146,60 +159,69 @@ module _ (fields : ℕ) (lines left : List (List ℕ)) (line : List ℕ) (tally 
         counted = omega (arith, going .counted);
         summed = omega (arith, going .summed);
         faults = omega (arith, going .faults);
+        keeping = going .keeping;
+        as-long = length-set kept (tally .count) (codeOf (orderOf line)) ∙ going .as-long;
         few = omega arith;
         little = omega (arith, going .little);
         fewer = omega (arith, going .fewer, one);
       }
 
-pub going-end : (fields : ℕ) (lines : List (List ℕ)) (tally : Tally) → Going fields lines [] tally → Tallied fields lines tally
-unfolding allShaped allPriced total faultyCount
-going-end fields lines tally going = record {
+pub going-end : (fields : ℕ) (lines : List (List ℕ)) (tally : Tally) (before kept : List ℕ) → Going fields lines [] tally before kept
+    → Tallied fields lines tally before kept
+unfolding allShaped allPriced total faultyCount keptFrom
+going-end fields lines tally before kept going = record {
   shape = going .begun ∙ going .shape;
   prices = λ h. and-yes (tally .priced) ∙ going .prices;
   counted = λ h. omega (arith, going .counted);
   summed = λ h. omega (arith, going .summed);
   faults = λ h. omega (arith, going .faults);
+  kept = λ h. going .keeping;
 }
   where
     and-yes : (t : Bool) → t ≡ (t && true)
     and-yes true = refl
     and-yes false = refl
 
--- a turn of the walk: the line at a place is read, and the next place reached
-pub record Turn (fields : ℕ) (s : List ℕ) (from at : ℕ) (tally : Tally) (read : RecordRead) (end : ℕ) : Type 0 where
+-- a turn of the walk: the line at a place is read, its order kept, and the next place reached
+pub record Turn (fields : ℕ) (s : List ℕ) (from at : ℕ) (tally : Tally) (before kept : List ℕ) (read : RecordRead) (end : ℕ) : Type 0 where
   pub small : Small tally (read .order)
+  pub keepable : Keepable (read .order)
   pub misshaped : read .shaped ≡ false → allShaped fields 1 (linesFrom from s) ≡ false
-  pub on : (tally′ : Tally) (at′ : ℕ) → read .shaped ≡ true → tally′ ≡ added tally (read .order)
+  pub on : (tally′ : Tally) (kept′ : List ℕ) (at′ : ℕ) → read .shaped ≡ true → tally′ ≡ added tally (read .order)
+      → kept′ ≡ set kept (tally .count) (codeOf (read .order))
       → at′ ≡ cond (ltb end (length s)) (end + 2) (length s + 1)
-      → Going fields (linesFrom from s) (linesFrom at′ s) tally′ × (at < at′)
+      → Going fields (linesFrom from s) (linesFrom at′ s) tally′ before kept′ × (at < at′)
 
-pub turn-of : (fields : ℕ) (s : List ℕ) (from at : ℕ) (tally : Tally) (read : RecordRead) (line : List ℕ) (end : ℕ)
+pub turn-of : (fields : ℕ) (s : List ℕ) (from at : ℕ) (tally : Tally) (before kept : List ℕ) (read : RecordRead) (line : List ℕ) (end : ℕ)
     → at ≤ length s → fields ≤ 32
-    → Going fields (linesFrom from s) (linesFrom at s) tally
+    → Going fields (linesFrom from s) (linesFrom at s) tally before kept
     → end ≡ lineEnd at s → line ≡ part at end s → RecordOf fields (tally .count + 1) line read
-    → Turn fields s from at tally read end
-unfolding nextLine
-turn-of fields s from at tally read line end inside allowed going ends lined told =
+    → Turn fields s from at tally before kept read end
+unfolding nextLine orderOf
+turn-of fields s from at tally before kept read line end inside allowed going ends lined told =
     let here-is : linesFrom at s ≡ line ∷ linesFrom (nextLine at s) s = rw (lined, ends) (walk-on s at inside) in
     let on-line = rw here-is at going in
     let shape = shape-of told allowed in
     record {
       small = record { few = going .few; little = going .little; fewer = going .fewer; bounded = told .within-cap };
-      misshaped = λ h. going-misshaped fields (linesFrom from s) (linesFrom (nextLine at s) s) line tally on-line (sym shape ∙ h);
-      on = λ tally′ at′ h t a.
+      keepable = record { to-the-cap = told .within-cap; fault-known = rw (told .its-order) (fault-known line) };
+      misshaped = λ h. going-misshaped fields (linesFrom from s) (linesFrom (nextLine at s) s) line tally before kept on-line (sym shape ∙ h);
+      on = λ tally′ kept′ at′ h t k a.
           let next : at′ ≡ nextLine at s = rw ends at a in (
-            rw (t, told .its-order, next) (going-on fields (linesFrom from s) (linesFrom (nextLine at s) s) line tally on-line (sym shape ∙ h)),
+            rw (t, k, told .its-order, next)
+                (going-on fields (linesFrom from s) (linesFrom (nextLine at s) s) line tally before kept on-line (sym shape ∙ h)),
             rw next (next-later s at inside),
           );
     }
 
 -- the tally of lines that are not all shaped
-pub tallied-misshaped : (fields : ℕ) (lines : List (List ℕ)) (tally : Tally) → tally .shaped ≡ false → allShaped fields 1 lines ≡ false
-    → Tallied fields lines tally
-tallied-misshaped fields lines tally n h = record {
+pub tallied-misshaped : (fields : ℕ) (lines : List (List ℕ)) (tally : Tally) (before kept : List ℕ) → tally .shaped ≡ false
+    → allShaped fields 1 lines ≡ false → Tallied fields lines tally before kept
+tallied-misshaped fields lines tally before kept n h = record {
   shape = n ∙ sym h;
   prices = λ t. absurd (true≢false (sym t ∙ n));
   counted = λ t. absurd (true≢false (sym t ∙ n));
   summed = λ t. absurd (true≢false (sym t ∙ n));
   faults = λ t. absurd (true≢false (sym t ∙ n));
+  kept = λ t. absurd (true≢false (sym t ∙ n));
 }

@@ -8,5 +8,6 @@ pub mod Opening
 pub mod Faults
 pub mod Contents
 pub mod Accepted
+pub mod Kept
 pub mod Walk
 pub mod Tally

@@ -1,8 +1,8 @@
-// An order file as a whole: its opening, its contents, and its orders one after the other.
+// An order file as a whole: its opening, its contents, and its orders.
 ghost use mathlib.Core.Path.{_≡_};
 ghost use mathlib.Core.Bool.{cond, _&&_};
 ghost use mathlib.Core.List.{_++_};
-ghost use Prim.Native.Nat.{ℕ, _+_, _<_, _≤_};
+ghost use Prim.Native.Nat.{_+_, _≤_};
 ghost use lib.Dec.{eqb, ltb};
 ghost use lib.ListN.{length};
 ghost use Rattle.text.specs.Utf8.{wellFormed};
@@ -11,14 +11,17 @@ ghost use Rattle.epe.specs.File.{marked, text};
 ghost use Rattle.epe.specs.Opening.{fileQuestions, fixedQuestions, repeatedQuestions, opening, openingOf};
 ghost use Rattle.epe.specs.Contents.{dateQuestions, statedQuestions, contents, orders, judgedOf};
 ghost use Rattle.epe.specs.Cut.{CutOf};
-ghost use Rattle.epe.specs.Walk.{linesFrom, body, takenAt, StandsAt, TakenIs};
+ghost use Rattle.epe.specs.Kept.{keptFrom};
+ghost use Rattle.epe.specs.Walk.{linesFrom, body};
 ghost use Rattle.epe.specs.Tally.{added, Small, StatedOf, Tallied, tallyJudged};
+ghost use Rattle.epe.specs.declared.verdict.Verdict.the-variants.{Passed};
 use crate::header::judge_dates;
 use crate::header::judge_fixed;
 use crate::header::judge_repeated;
 use crate::header::judge_stated;
 use crate::header::stated_count;
 use crate::header::stated_sum;
+use crate::kept::keep;
 use crate::line::BAR;
 use crate::name::Name;
 use crate::name::judge_name;
@@ -26,7 +29,6 @@ use crate::name::name_of;
 use crate::profile::Profile;
 use crate::profile::profile_fits;
 use crate::record::Order;
-use crate::record::read_order;
 use crate::record::read_record;
 use crate::refusals;
 use crate::verdict::Verdict;
@@ -49,12 +51,6 @@ pub struct Opening {
 pub enum Judged {
     Accepted(u64, u64),
     Refused(u64),
-}
-
-// An order that was taken, and the place of the next.
-pub struct Taken {
-    pub order: Order,
-    pub next: usize,
 }
 
 // What the record lines so far come to: whether all are shaped and priced, how many they are, their sum, and how many orders are faulty.
@@ -184,10 +180,10 @@ fn with_order(tally: Tally, order: Order) -> Tally
     }
 }
 
-// The tally of the record lines from a place on, up to the first that is not shaped.
-fn tally_records(s: &[u8], from: usize, fields: u64) -> Tally
+// The tally of the record lines from a place on, up to the first that is not shaped; their orders are kept as they are read.
+fn tally_records(s: &[u8], from: usize, fields: u64, kept: &mut [u64]) -> Tally
     requires { ⌜ fields ≤ 32 ⌝ }
-    ensures { λ r. ⌜ Tallied fields (linesFrom from (now (s .entry))) r ⌝ }
+    ensures { λ r. ⌜ Tallied fields (linesFrom from (now (s .entry))) r (now (kept .entry)) (now (kept .exit)) ⌝ }
 {
     let mut tally = Tally {
         shaped: true,
@@ -199,7 +195,8 @@ fn tally_records(s: &[u8], from: usize, fields: u64) -> Tally
     let mut at = from;
     while at <= s.len() {
         let end = line_end(s, at);
-        let read = read_record(slice(s, at, end), fields, tally.count + 1);
+        let number = tally.count + 1;
+        let read = read_record(slice(s, at, end), fields, number);
         if !read.shaped {
             return Tally {
                 shaped: false,
@@ -210,6 +207,7 @@ fn tally_records(s: &[u8], from: usize, fields: u64) -> Tally
             };
         }
         let order = read.order;
+        keep(kept, tally.count, order);
         tally = with_order(tally, order);
         at = after_line(s, end);
     }
@@ -261,9 +259,10 @@ pub fn open(name: &[u8], file: &[u8]) -> Opening
     }
 }
 
-// What the contents of a file come to.
-pub fn judge_contents(profile: Profile, file: &[u8]) -> Judged
+// What the contents of a file come to. Where they pass, the table keeps the file's orders from its first entry on; after a refusal it may hold some of them.
+pub fn judge_contents(profile: Profile, file: &[u8], kept: &mut [u64]) -> Judged
     ensures { λ r. ⌜ r ≡ judgedOf (contents profile (now (file .entry))) (orders (now (file .entry))) ⌝ }
+    ensures { λ _. ⌜ (contents profile (now (file .entry)) ≡ Passed → now (kept .exit) ≡ keptFrom (now (kept .entry)) 0 (orders (now (file .entry)))) ⌝ }
 {
     if !profile_fits(profile) {
         return Judged::Refused(refusals::PROFILE);
@@ -277,27 +276,6 @@ pub fn judge_contents(profile: Profile, file: &[u8]) -> Judged
     if let Verdict::Refused(n) = verdict {
         return Judged::Refused(n);
     }
-    let tally = tally_records(s, after_line(s, end), fields);
+    let tally = tally_records(s, after_line(s, end), fields, kept);
     judge_tally(tally, stated.count, stated.sum)
-}
-
-// The place of a file's first order.
-pub fn first_order(file: &[u8]) -> usize
-    ensures { λ r. ⌜ StandsAt (now (file .entry)) r 0 ⌝ }
-{
-    let s = body_of(file);
-    after_line(s, line_end(s, 0))
-}
-
-// The order at a place, and the place of the next.
-pub fn take_order(file: &[u8], at: usize) -> Taken
-    ensures { λ r. ⌜ r ≡ takenAt at (body (now (file .entry))) ⌝ }
-    ensures { λ r. ⌜ ((i : ℕ) → StandsAt (now (file .entry)) at i → i < length (orders (now (file .entry))) → TakenIs (now (file .entry)) i r) ⌝ }
-{
-    let s = body_of(file);
-    let end = line_end(s, at);
-    Taken {
-        order: read_order(slice(s, at, end)),
-        next: after_line(s, end),
-    }
 }

@@ -2,6 +2,7 @@
 pub mod file;
 mod header;
 pub mod ident;
+pub mod kept;
 mod line;
 pub mod name;
 pub mod profile;

@@ -328,15 +328,6 @@ fn is_shaped(line: &[u8], table: &[usize], count: usize, fields: u64, n: u64) ->
     is_numbered(field_of(line, table, count, 2), n)
 }
 
-// The order that a record line is.
-pub fn read_order(line: &[u8]) -> Order
-    ensures { λ r. ⌜ r ≡ orderOf (now (line .entry)) ⌝ }
-{
-    let mut table = [0usize; 32];
-    let count = cut(line, BAR, &mut table);
-    order_of(line, &table, count)
-}
-
 // What a record line says that is to be record n, in so many fields.
 pub fn read_record(line: &[u8], fields: u64, n: u64) -> RecordRead
     ensures { λ r. ⌜ RecordOf fields n (now (line .entry)) r ⌝ }

@@ -7,7 +7,7 @@ use Rattle.book.proofs.enter.enter_behind.Statement.{statement}
 use Rattle.book.proofs.enter.enter_behind.Tie as tie
 
 returns : tie.Need-returns
-returns c = no-shipment-left _ _ _ _ _ (c .before .before .before .pre .0) (c .if1 .taken)
+returns c = no-shipment-left _ _ _ _ _ _ _ (c .before .before .before .pre .0) (c .if1 .taken)
 
 rows-of-requires : tie.Need-rows-of-requires
 rows-of-requires c κs =
@@ -20,7 +20,7 @@ sub-if2 c =
     let rows = c in
     let few = rows .before .before in
     let start = few .before .before .before in
-    from-within _ _ (start .args .name) (start .args .fee) (start .args .file .now) (start .pre .0) (few .if1 .left) (rows .rows-of .ensures)
+    from-within _ _ (start .args .name) (start .args .fee) (start .args .n) (start .args .faulty) (start .args .kept .now) (start .pre .0) (few .if1 .left) (rows .rows-of .ensures)
 
 same-length : tie.Need-same-length
 same-length c = search needs
@@ -30,7 +30,7 @@ returns-2 c =
     let rows = c .before in
     let few = rows .before .before in
     let start = few .before .before .before in
-    no-row-left _ _ _ _ _ (start .pre .0) (few .if1 .left) (rows .rows-of .ensures) (start .pre .1) (c .if2 .taken)
+    no-row-left _ _ _ _ _ _ _ (start .pre .0) (few .if1 .left) (rows .rows-of .ensures) (start .pre .1) (c .if2 .taken)
 
 enter-requires : tie.Need-enter-requires
 enter-requires c κs =
@@ -38,7 +38,7 @@ enter-requires c κs =
     let rows = room .before in
     let few = rows .before .before in
     let start = few .before .before .before in
-    fits-behind _ _ _ _ _ (start .pre .0) (few .if1 .left) (rows .rows-of .ensures) (start .pre .1) (room .if2 .left)
+    fits-behind _ _ _ _ _ (start .args .faulty) _ (start .pre .0) (few .if1 .left) (rows .rows-of .ensures) (start .pre .1) (room .if2 .left)
 
 same-length-2 : tie.Need-same-length-2
 same-length-2 c = search needs
@@ -50,7 +50,7 @@ returns-3 c =
     let rows = room .before in
     let few = rows .before .before in
     let start = few .before .before .before in
-    entered-behind _ _ _ _ _ (start .pre .0) (few .if1 .left) (rows .rows-of .ensures) (start .pre .1) (room .if2 .left) (done .enter .ensures)
+    entered-behind _ _ _ _ _ _ _ (start .pre .0) (few .if1 .left) (rows .rows-of .ensures) (start .pre .1) (room .if2 .left) (done .enter .ensures)
 
 pub enter-behind-spec : {M : Type 1} → statement M
 enter-behind-spec =

@@ -1,14 +1,14 @@
--- `epe::file::judge_contents` asks for the profile, then of the header, then of the tally of the records.
+-- `epe::file::judge_contents` asks for the profile, then of the header, then of the tally of the records, whose orders are kept.
 use mathlib.Core.Path.{_≡_, sym, _∙_}
 use mathlib.Core.Bool.{true}
 use borrow.Author.Needs.{needs}
 use Rattle.text.proofs.Branches.{told-no, told-yes}
 use Rattle.epe.specs.Profile.{profileFits}
-use Rattle.epe.proofs.Judging.{fields-allowed, profile-refused, statement-refused, records-judged}
+use Rattle.epe.proofs.Judging.{fields-allowed, profile-refused, refused-not-passed, statement-refused, records-judged, records-kept}
 use Rattle.epe.proofs.file.judge_contents.Statement.{statement}
 use Rattle.epe.proofs.file.judge_contents.Tie as tie
 
-fits : (c : tie.Else1) → profileFits (c .before .before .before .args .profile) ≡ true
+fits : (c : tie.Else1) → profileFits (c .before .before .before .before .args .profile) ≡ true
 fits c = told-yes _ _ (c .before .profile-fits .ensures) (c .if1 .left)
 
 profile-fits-requires : tie.Need-profile-fits-requires
@@ -16,8 +16,9 @@ profile-fits-requires c κs = search needs
 
 returns : tie.Need-returns
 returns c =
-    profile-refused (c .before .before .before .args .profile) (c .before .before .before .args .file .now) _
-    (told-no _ _ (c .before .profile-fits .ensures) (c .if1 .taken))
+    let start = c .before .before .before .before .args in
+    let refused = profile-refused (start .profile) (start .file .now) _ (told-no _ _ (c .before .profile-fits .ensures) (c .if1 .taken)) in
+    (refused, λ passed. absurd (refused-not-passed _ _ refused passed))
 
 body-of-requires : tie.Need-body-of-requires
 body-of-requires c κs = search needs
@@ -40,9 +41,11 @@ returns-2 c =
     let ended = stated .before .before in
     let cut = ended .before in
     let fitting = cut .before .before in
-    let start = fitting .before .before .before .args in
+    let start = fitting .before .before .before .before .args in
+    let refused =
     statement-refused (start .profile) (start .file .now) _ _ _ (fits fitting) (cut .body-of .ensures) (ended .line-end .ensures) (stated .before .slice .ensures) _
-    (sym (stated .read-stated .ensures .judged) ∙ c .before .verdict .given .1)
+    (sym (stated .read-stated .ensures .judged) ∙ c .before .verdict .given .1) in
+    (refused, λ passed. absurd (refused-not-passed _ _ refused passed))
 
 enum-told : tie.Need-enum-told
 enum-told c = search needs
@@ -52,25 +55,32 @@ after-line-requires c κs = search needs
 
 tally-records-requires : tie.Need-tally-records-requires
 tally-records-requires c κs =
-    let fitting = c .before .before .before .before .before .before .before .before in
-    fields-allowed (fitting .before .before .before .args .profile) (fits fitting)
+    let fitting = c .before .before .before .before .before .before .before .before .before in
+    fields-allowed (fitting .before .before .before .before .args .profile) (fits fitting)
 
 judge-tally-requires : tie.Need-judge-tally-requires
 judge-tally-requires c κs = search needs
 
+same-length : tie.Need-same-length
+same-length c = search needs
+
 returns-3 : tie.Need-returns-3
 returns-3 c =
-    let told = c .before .before .before in
+    let walked = c .before .before .before in
+    let told = walked .before .before .before in
     let stated = told .before .before in
     let ended = stated .before .before in
     let cut = ended .before in
     let fitting = cut .before .before in
-    let start = fitting .before .before .before .args in
-    c .judge-tally .ensures
-    ∙ records-judged (start .profile) (start .file .now) _ _ _ (fits fitting) (cut .body-of .ensures) (ended .line-end .ensures) (stated .before .slice .ensures)
-    _ _ _ _ (sym (stated .read-stated .ensures .judged) ∙ told .enum-told .given .1)
-    (stated .read-stated .ensures .counted) (stated .read-stated .ensures .summed)
-    (c .before .before .after-line .ensures) (c .before .tally-records .ensures)
+    let start = fitting .before .before .before .before .args in (
+      c .judge-tally .ensures
+          ∙ records-judged (start .profile) (start .file .now) _ _ _ (fits fitting) (cut .body-of .ensures) (ended .line-end .ensures) (stated .before .slice .ensures)
+          (walked .before .before .after-line .ensures) (walked .tally-records .ensures)
+          _ _ (sym (stated .read-stated .ensures .judged) ∙ told .enum-told .given .1)
+          (stated .read-stated .ensures .counted) (stated .read-stated .ensures .summed),
+      records-kept (start .profile) (start .file .now) _ _ _ (fits fitting) (cut .body-of .ensures) (ended .line-end .ensures) (stated .before .slice .ensures)
+          (walked .before .before .after-line .ensures) (walked .tally-records .ensures),
+    )
 
 pub judge-contents-spec : {M : Type 1} → statement M
 judge-contents-spec =
@@ -88,4 +98,5 @@ judge-contents-spec =
     after-line-requires
     tally-records-requires
     judge-tally-requires
+    same-length
     returns-3)
