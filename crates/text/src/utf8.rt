@@ -165,7 +165,7 @@ fn all_ascii(s: &[u8]) -> bool
     is_ascii(bits)
 }
 
-// The first place at e or past it, with characters taken one by one from i; i itself where one of them is not well formed.
+// Behind the first character from i on that is not ASCII, or e where none starts before it; i itself where that one is not well formed.
 fn past_characters(s: &[u8], i: usize, e: usize) -> usize
     requires { ⌜ (i < e) × (e ≤ length (now s)) ⌝ }
     ensures { λ r. ⌜ Past (now (s .entry)) i r ⌝ }
@@ -181,15 +181,15 @@ fn past_characters(s: &[u8], i: usize, e: usize) -> usize
         if w == 0 {
             return i;
         }
-        j += w;
+        return j + w;
     }
     j
 }
 
-// How many octets are taken at once where all are ASCII.
-const BLOCK: usize = 64;
+// How many octets are taken at once where all are ASCII. Few, since a Polish record has a character that is not in every two dozen octets or so.
+const BLOCK: usize = 16;
 
-// A place past i, behind a block of ASCII or the characters that start in it; i itself where one of them is not well formed.
+// A place past i, behind a block of ASCII or behind the first character that is not; i itself where that one is not well formed.
 fn past_block(s: &[u8], i: usize) -> usize
     requires { ⌜ i < length (now s) ⌝ }
     ensures { λ r. ⌜ Past (now (s .entry)) i r ⌝ }

@@ -1,4 +1,4 @@
--- `text::utf8::past_block` passes a block of ASCII at once, else the characters that start in it.
+-- `text::utf8::past_block` passes a block of ASCII at once, else the first character that is not.
 use native.Mathlib.Omega.{arith}
 use borrow.Author.Needs.{needs}
 use Rattle.text.proofs.Utf8Places.{past-part}

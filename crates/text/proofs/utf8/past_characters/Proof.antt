@@ -1,4 +1,4 @@
--- `text::utf8::past_characters` meets its contract: the places from i to j are passed.
+-- `text::utf8::past_characters` meets its contract: the places from i to j are passed, and the character at j.
 use mathlib.Core.Path.{sym, _∙_}
 use Prim.Native.Nat.{_-_}
 use native.Mathlib.Omega.{arith}
@@ -43,22 +43,21 @@ returns c =
     let turn = c .before .before .before .before .before .before in
     (past-nothing _ _ (omega arith), λ e. past-to-fault (turn .loop .inv) (omega arith) (sym (c .before .width-at .ensures) ∙ c .if2 .taken))
 
-add-j-2 : tie.Need-add-j-2 Inv-loop μ-loop
-add-j-2 c =
+add-result : tie.Need-add-result Inv-loop μ-loop
+add-result c =
     let turn = c .before .before .before .before .before .before in
     omega (arith, c .before .width-at .ensures, width-at-most-four (turn .before .before .args .s .now) (turn .loop .j))
 
-loop-less-2 : tie.Need-loop-less-2 Inv-loop μ-loop
-loop-less-2 c = omega arith
-
-loop-again-2 : tie.Need-loop-again-2 Inv-loop μ-loop
-loop-again-2 c =
-    let turn = c .before .before .before .before .before .before in
-    let w = c .before .width-at .ensures in
-    rw w (past-both (turn .loop .inv) (past-character _ _ (omega arith) (λ z. c .if2 .left (w ∙ z))))
-
 returns-2 : tie.Need-returns-2 Inv-loop μ-loop
-returns-2 c = (c .before .loop .inv, λ e. absurd (omega arith))
+returns-2 c =
+    let turn = c .before .before .before .before .before .before in
+    let w = c .before .width-at .ensures in (
+      rw w (past-both (turn .loop .inv) (past-character _ _ (omega arith) (λ z. c .if2 .left (w ∙ z)))),
+      λ e. absurd (c .if2 .left (omega (arith, turn .loop .inv .onward))),
+    )
+
+returns-3 : tie.Need-returns-3 Inv-loop μ-loop
+returns-3 c = (c .before .loop .inv, λ e. absurd (omega arith))
 
 pub past-characters-spec : {M : Type 1} → statement M
 past-characters-spec =
@@ -74,7 +73,6 @@ past-characters-spec =
     loop-again
     width-at-requires
     returns
-    add-j-2
-    loop-less-2
-    loop-again-2
-    returns-2)
+    add-result
+    returns-2
+    returns-3)
