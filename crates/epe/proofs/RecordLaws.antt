@@ -1,22 +1,35 @@
--- Laws of a record line's questions: spaces from a field on, and the first fault.
+-- Laws of a record line's questions: a field's size, spaces from a field on, and the first fault.
 -- Assumes nothing.
 use mathlib.Core.Path.{_≡_, refl}
-use mathlib.Core.Bool.{Bool, true, false, cond}
+use mathlib.Core.Bool.{Bool, true, false, cond, _&&_}
 use mathlib.Core.List.{List, [], _∷_}
 use Prim.Native.Nat.{ℕ, zero, suc, _+_, _-_, _<_, _≤_}
 use native.Mathlib.Omega.{arith}
-use borrow.Author.Tests.{le-leb}
-use lib.Dec.{lit≤}
-use lib.ListN.{length, List·getD-eq-default}
-use Rattle.text.proofs.Branches.{told-no, told-yes}
+use borrow.Author.Tests.{leb-true, le-leb}
+use lib.Dec.{leb, lit≤}
+use lib.ListN.{length, take, List·getD-eq-default}
+use Rattle.text.specs.Utf8.{codePoints}
+use Rattle.text.proofs.Branches.{and-left, and-right, told-no, told-yes}
+use Rattle.text.proofs.Utf8Counting.{first-counts, counts-at-most}
 use Rattle.epe.specs.File.{field}
 use Rattle.epe.specs.Questions.{Question, _⇒_, firstNo}
-use Rattle.epe.specs.Faults.{spaced, unspaced, faultQuestions, faultIn, faultOf}
+use Rattle.epe.specs.Faults.{sized, spaced, unspaced, faultQuestions, faultIn, faultOf}
 use Rattle.epe.specs.Contents.{shaped}
 use Rattle.epe.specs.Tally.{RecordOf}
 use Rattle.epe.specs.declared.record.RecordRead.{RecordRead}
 use Rattle.epe.specs.declared.verdict.Verdict.{Verdict}
 use Rattle.epe.specs.declared.verdict.Verdict.the-variants.{Refused}
+
+-- what holds of the first byte's count and of the number of bytes holds of the count between them
+pub sized-by-bytes : (low high : ℕ) (s : List ℕ) → (leb low (codePoints (take 1 s)) && leb (length s) high) ≡ true → sized low high s ≡ true
+unfolding sized
+sized-by-bytes low high s h =
+    let lowest = leb-true low (codePoints (take 1 s)) (and-left (leb low (codePoints (take 1 s))) (leb (length s) high) h) in
+    let highest = leb-true (length s) high (and-right (leb low (codePoints (take 1 s))) (leb (length s) high) h) in
+    rw (
+      le-leb low (codePoints s) (omega (arith, first-counts s)),
+      le-leb (codePoints s) high (omega (arith, counts-at-most s)),
+    )
 
 pub none-unspaced : (s : List ℕ) → length s ≡ 0 → false ≡ spaced s
 unfolding spaced

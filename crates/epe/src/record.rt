@@ -3,10 +3,11 @@ ghost use mathlib.Core.Path.{_≡_};
 ghost use mathlib.Core.Bool.{_&&_, _||_};
 ghost use Prim.Native.Nat.{_≤_};
 ghost use lib.Dec.{eqb, leb};
-ghost use lib.ListN.{drop};
+ghost use lib.ListN.{length, take, drop};
 ghost use Rattle.text.specs.Bytes.{same};
 ghost use Rattle.text.specs.Quoted.{bytes};
 ghost use Rattle.text.specs.Number.{number, isNumber, valueOf};
+ghost use Rattle.text.specs.Utf8.{codePoints};
 ghost use Rattle.money.specs.Money.{orderCap};
 ghost use Rattle.epe.specs.File.{field};
 ghost use Rattle.epe.specs.Cut.{CutOf};
@@ -77,10 +78,20 @@ const SPACED: u64 = 10;
 // A space is U+0020 only.
 const SPACE: u8 = b' ';
 
-// Is a text from low to high code points long?
+// Is the first byte's count of code points no less than low, and the number of bytes no more than high? Then so is the count of all.
+fn is_sized_by_bytes(s: &[u8], low: usize, high: usize) -> bool
+    ensures { λ r. ⌜ r ≡ (leb low (codePoints (take 1 (now (s .entry)))) && leb (length (now (s .entry))) high) ⌝ }
+{
+    low <= count_code_points(first(s, 1)) && s.len() <= high
+}
+
+// Is a text from low to high code points long? Most are, by their bytes, and are not counted.
 fn is_sized(s: &[u8], low: usize, high: usize) -> bool
     ensures { λ r. ⌜ r ≡ sized low high (now (s .entry)) ⌝ }
 {
+    if is_sized_by_bytes(s, low, high) {
+        return true;
+    }
     let n = count_code_points(s);
     low <= n && n <= high
 }

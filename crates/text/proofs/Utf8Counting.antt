@@ -3,12 +3,13 @@
 -- Assumes nothing.
 use mathlib.Core.Path.{_≡_, refl, sym, _∙_, ap}
 use mathlib.Core.List.{List, [], _∷_, _++_}
-use Prim.Native.Nat.{ℕ, suc, _+_, _/_, _%_, _<_}
+use Prim.Native.Nat.{ℕ, suc, _+_, _/_, _%_, _<_, _≤_}
 use native.Mathlib.Omega.{arith}
-use lib.ListN.{length}
+use lib.ListN.{length, take}
 use borrow.Author.Tests.{eq-eqb, ne-eqb}
 use Rattle.text.specs.Utf8.{tail, starts, codePoints, decoded, CountsWhatIsDecoded}
 use Rattle.text.specs.Utf8Encoded.{encoded, encodedAll}
+use Rattle.text.proofs.Branches.{cond-either}
 use Rattle.text.proofs.Utf8Read.{read-is-written}
 use Rattle.text.proofs.Utf8Written.{by-ranges}
 
@@ -42,3 +43,15 @@ counts-what-is-encoded (p ∷ ps) = adds-one p (encodedAll ps) ∙ ap suc (count
 -- "Lengths count code points, not bytes."
 pub counts-what-is-decoded : CountsWhatIsDecoded
 counts-what-is-decoded s h = ap codePoints (sym (read-is-written s h .1)) ∙ counts-what-is-encoded (decoded s)
+
+-- a text has no fewer code points than its first octet starts, and no more than it has octets
+pub first-counts : (s : List ℕ) → codePoints (take 1 s) ≤ codePoints s
+unfolding codePoints
+first-counts [] = omega arith
+first-counts (b ∷ s) = omega arith
+
+pub counts-at-most : (s : List ℕ) → codePoints s ≤ length s
+unfolding codePoints starts
+counts-at-most [] = omega arith
+counts-at-most (b ∷ s) =
+    cond-either (λ n. n + codePoints s ≤ length (b ∷ s)) (tail b) 0 1 (λ e. omega (arith, counts-at-most s)) (λ e. omega (arith, counts-at-most s))
