@@ -17,7 +17,7 @@ use Rattle.memory.specs.Read.{rowsFrom, ordersAt, shipmentAt}
 use Rattle.sound.specs.Tally.{tallyOf, faultyIn}
 use Rattle.sound.specs.declared.tally.Tally.{Tally}
 use Rattle.sound.proofs.ReadLaws.{rows-many}
-use Rattle.sound.proofs.RowSums.{any-faulty}
+use Rattle.sound.proofs.RowClasses.{any-faulty}
 use Rattle.book.specs.Place.{Sits}
 use Rattle.book.proofs.HeadFields.{orders-are, fee-is}
 
@@ -63,4 +63,4 @@ module _ (m : List ℕ) (i k : ℕ) (sits : Sits m i k) {head : List ℕ} (is-he
 
     pub faulty-is : faultyIn tally ≡ anyFaulty (s .rows)
     unfolding shipmentIn
-    faulty-is = ap faultyIn tally-is ∙ sym (any-faulty (s .rows) (omega (arith, rows-many m k (ordersAt m i), sits .room)))
+    faulty-is = ap faultyIn tally-is ∙ sym (any-faulty (s .rows))

@@ -110,10 +110,10 @@ pub record RowReturned (route : Route) (money : Money) (k : ℕ) (m m′ : List 
   pub took : taken ≡ when (waitsOn route money (rowOf (rowBytes m k))) (of money 1 2)
   pub still : taken ≡ 0 → m′ ≡ m
 
--- What soundness asks of a state, as one number to add up over a shipment's rows: 1 where it is Faulty, 4,096 more where only a Paired shipment may
--- have it, 16,777,216 more where its fault is out of range.
+-- What soundness asks of a state, as bits to join over a shipment's rows: 1 where it is Faulty, 2 where only a Paired shipment may have it, 4 where
+-- its fault is out of range.
 abbrev pub classOf : State → ℕ
-classOf state = when (isFaulty state) 1 + (when (not (beforePairing state)) 4_096 + when (not (faultInRange state)) 16_777_216)
+classOf state = when (isFaulty state) 1 + (when (not (beforePairing state)) 2 + when (not (faultInRange state)) 4)
 
 -- What a function gives at n places from one on, as a table.
 abbrev pub listed : (ℕ → ℕ) → ℕ → ℕ → List ℕ

@@ -18,63 +18,63 @@ ghost use Rattle.memory.specs.Rows.{kWaits, oWaits, stateOf, rowOf, wait
 pub const ROWS: usize = 2_112;
 
 // What soundness asks of the bytes of state from 0 to 51: see `class_of`.
-const CLASSES: [u64; 52] = [
+const CLASSES: [u8; 52] = [
     0,
-    4_096,
-    4_096,
-    16_781_313,
-    4_096,
-    4_096,
-    16_781_313,
-    16_781_313,
-    4_096,
-    4_096,
-    4_096,
-    4_096,
-    4_097,
-    4_097,
-    4_097,
+    2,
+    2,
+    7,
+    2,
+    2,
+    7,
+    7,
+    2,
+    2,
+    2,
+    2,
+    3,
+    3,
+    3,
     1,
-    4_097,
-    4_097,
-    4_097,
+    3,
+    3,
+    3,
     1,
-    4_097,
-    4_097,
-    4_097,
+    3,
+    3,
+    3,
     1,
-    4_097,
-    4_097,
-    4_097,
+    3,
+    3,
+    3,
     1,
-    4_097,
-    4_097,
-    4_097,
+    3,
+    3,
+    3,
     1,
-    4_097,
-    4_097,
-    4_097,
+    3,
+    3,
+    3,
     1,
-    4_097,
-    4_097,
-    4_097,
+    3,
+    3,
+    3,
     1,
-    4_097,
-    4_097,
-    4_097,
+    3,
+    3,
+    3,
     1,
-    4_097,
-    4_097,
-    4_097,
+    3,
+    3,
+    3,
     1,
-    4_097,
-    4_097,
-    4_097,
+    3,
+    3,
+    3,
     1,
 ];
 
 // What it asks of a byte that says no state, as all from 52 on.
-const NO_STATE: u64 = 16_781_313;
+const NO_STATE: u8 = 7;
 
 // The bytes of row k.
 pub fn row_bytes(memory: &[u8], k: usize) -> &[u8]
@@ -154,7 +154,7 @@ pub fn read_row(row: &[u8]) -> Row
 }
 
 // What soundness asks of each byte of state. It is made once for many rows, and lent.
-pub fn class_table() -> [u64; 256]
+pub fn class_table() -> [u8; 256]
     ensures { λ r. ⌜ r ≡ classTable ⌝ }
 {
     let classes = CLASSES;
@@ -168,15 +168,15 @@ pub fn class_table() -> [u64; 256]
 }
 
 // What soundness asks of the state that a byte says.
-fn class_of(code: u8, table: &[u64]) -> u64
+fn class_of(code: u8, table: &[u8]) -> u8
     requires { ⌜ now table ≡ classTable ⌝ }
     ensures { λ r. ⌜ r ≡ classOf (stateOf code) ⌝ }
 {
     table[code as usize]
 }
 
-// What soundness asks of a row's state, as one number to add up.
-pub fn class(row: &[u8], table: &[u64]) -> u64
+// What soundness asks of a row's state, as bits to join.
+pub fn class(row: &[u8], table: &[u8]) -> u8
     requires { ⌜ (length (now row) ≡ 8) × (now table ≡ classTable) ⌝ }
     ensures { λ r. ⌜ r ≡ classOf (rowOf (now (row .entry)) .state) ⌝ }
 {

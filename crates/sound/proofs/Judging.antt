@@ -19,7 +19,7 @@ use Rattle.sound.specs.declared.tally.Tally.{Tally}
 use Rattle.sound.specs.Tally.{tallyOf, rowsFit, goAheadFits, sumsFit, moneyFits, moneysFit, judged, JudgedIsSound}
 use Rattle.sound.specs.Walk.{soundAt}
 use Rattle.sound.proofs.ReadLaws.{rows-many}
-use Rattle.sound.proofs.RowSums.{rows-fit, any-faulty}
+use Rattle.sound.proofs.RowClasses.{rows-fit, any-faulty}
 
 -- the two questions of the go-ahead as one
 go-ahead : (given faulty paired t : Bool)
@@ -33,7 +33,7 @@ go-ahead false faulty false t = refl
 
 pub judged-is-sound : JudgedIsSound
 unfolding shipmentSound moneySound need shipmentIn rowsFit goAheadFits sumsFit moneyFits moneysFit judged
-judged-is-sound head rows few = rw (rows-fit (stageOf (getD head 28 0)) rows few, any-faulty rows few, go-ahead)
+judged-is-sound head rows = rw (rows-fit (stageOf (getD head 28 0)) rows, any-faulty rows, go-ahead)
 
 pub need-most : (n fee : ℕ) → n ≤ 2_048 → fee < 2 ^ 32 → n * fee < 2 ^ 60
 need-most n fee few small = omega (arith, mul-le-mul-right fee few)
@@ -54,7 +54,7 @@ module _ (m head : List ℕ) (i k : ℕ) (head-is : head ≡ headBytes m i) wher
       unfolding soundAt
       judged-there =
           let many = rows-many m k n in
-          rw (← head-is, flags, ← n-is, le-leb (k + n) 2_048 room, judged-is-sound head (rowsFrom m k n) (omega arith), many)
+          rw (← head-is, flags, ← n-is, le-leb (k + n) 2_048 room, judged-is-sound head (rowsFrom m k n), many)
 
       pub name-wrong : nameInForm (nameIn head) ≡ false → false ≡ soundAt m i k
       name-wrong h = rw (judged-there, h)

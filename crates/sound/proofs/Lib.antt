@@ -1,5 +1,5 @@
 pub mod ReadLaws
-pub mod RowSums
+pub mod RowClasses
 pub mod Tallying
 pub mod Judging
 pub mod Walking

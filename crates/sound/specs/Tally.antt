@@ -1,8 +1,9 @@
--- How code asks whether a shipment is sound: by sums over its rows. Only the contracts below `is_sound` need these.
+-- How code asks whether a shipment is sound: by its rows taken together. Only the contracts below `is_sound` need these.
 use mathlib.Core.Path.{_≡_}
-use mathlib.Core.Bool.{Bool, true, not, _&&_, _||_, cond}
-use mathlib.Core.List.{List}
-use Prim.Native.Nat.{ℕ, _+_, _*_, _%_, _≤_}
+use mathlib.Core.Bool.{Bool, true, false, not, _&&_, _||_, cond}
+use mathlib.Core.List.{List, [], _∷_}
+use Prim.Native.Nat.{ℕ, _+_, _*_, _%_}
+use lib.Bits.{bitOr}
 use lib.Dec.{leb, ltb, eqb}
 use lib.ListN.{length, getD}
 use Rattle.text.specs.Bytes.{between}
@@ -16,26 +17,30 @@ use Rattle.model.specs.declared.Row.{Row}
 use Rattle.memory.specs.Number.{numberAt}
 use Rattle.memory.specs.Rows.{classOf}
 use Rattle.memory.specs.Heads.{nameIn, stageOf, goAheadIn, acceptedAt, returnedAt, shipmentIn}
-use Rattle.sound.specs.declared.tally.Sums.{Sums}
 use Rattle.sound.specs.declared.tally.Tally.{Tally}
 
--- A row adds its state's class, and as much for an amount out of range as for a fault out of range.
-abbrev pub rowClass : Row → ℕ
-rowClass row = classOf (row .state) + when (not (between 1 orderCap (row .amount .0))) 16_777_216
+-- A row joins its state's class, and counts where its amount is out of range.
+abbrev pub outIn : Row → ℕ
+outIn row = when (not (between 1 orderCap (row .amount .0))) 1
 
 abbrev pub tallied : Tally → Row → Tally
-tallied tally row = record { classes = tally .classes + rowClass row; amounts = tally .amounts + row .amount .0 }
+tallied tally row = record {
+  classes = bitOr (tally .classes) (classOf (row .state));
+  amounts = tally .amounts + row .amount .0;
+  out = tally .out + outIn row;
+}
 
--- The tally that the sums come to, where the amounts out of range were counted apart.
-abbrev pub tallyIn : Sums → Tally
-tallyIn sums = record { classes = sums .classes + 16_777_216 * sums .out; amounts = sums .amounts }
+-- The classes of rows, joined to those before.
+abbrev pub joined : ℕ → List Row → ℕ
+joined classes [] = classes
+joined classes (row ∷ rows) = joined (bitOr classes (classOf (row .state))) rows
 
 abbrev pub tallyOf : List Row → Tally
-tallyOf rows = record { classes = sum rowClass rows; amounts = sum (λ (row : Row). row .amount .0) rows }
+tallyOf rows = record { classes = joined 0 rows; amounts = sum (λ (row : Row). row .amount .0) rows; out = sum outIn rows }
 
--- Faulty rows alone add less than 4,096 in all.
+-- The lowest bit is that of Faulty rows.
 abbrev pub faultyIn : Tally → Bool
-faultyIn tally = ltb 0 (tally .classes % 4_096)
+faultyIn tally = eqb (tally .classes % 2) 1
 
 abbrev pub pairedIn : List ℕ → Bool
 pairedIn head = isPaired (stageOf (getD head 28 0))
@@ -45,7 +50,7 @@ waitingIn head = isWaiting (stageOf (getD head 28 0))
 
 -- The questions of `shipmentSound`, by a head and a tally.
 unfoldable pub rowsFit : List ℕ → Tally → Bool
-rowsFit head tally = cond (pairedIn head) (ltb (tally .classes) 16_777_216) (ltb (tally .classes) 4_096)
+rowsFit head tally = cond (ltb 0 (tally .out)) false (cond (pairedIn head) (ltb (tally .classes) 4) (ltb (tally .classes) 2))
 
 unfoldable pub goAheadFits : List ℕ → Tally → Bool
 goAheadFits head tally =
@@ -69,7 +74,7 @@ judged head n tally =
     && (rowsFit head tally
     && (goAheadFits head tally && moneysFit head n tally)))
 
--- So a shipment of at most 2,048 rows is sound.
+-- So a shipment is sound.
 abbrev pub JudgedIsSound : Type 0
-JudgedIsSound = (head : List ℕ) (rows : List Row) → length rows ≤ 2_048
+JudgedIsSound = (head : List ℕ) (rows : List Row)
     → shipmentSound (shipmentIn head rows) ≡ (nameInForm (nameIn head) && judged head (length rows) (tallyOf rows))

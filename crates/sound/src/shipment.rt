@@ -42,6 +42,9 @@ fn do_rows_fit(head: &[u8], tally: Tally) -> bool
     requires { ⌜ length (now head) ≡ 64 ⌝ }
     ensures { λ r. ⌜ r ≡ rowsFit (now (head .entry)) tally ⌝ }
 {
+    if 0 < tally.out {
+        return false;
+    }
     if is_paired(head) {
         return tally.classes < OUT_OF_RANGE;
     }
@@ -125,7 +128,7 @@ fn judge(head: &[u8], n: u64, tally: Tally) -> bool
 }
 
 // Is the shipment of head i sound, its rows from the k-th on?
-fn is_sound_at(memory: &[u8], i: usize, k: usize, table: &[u64]) -> bool
+fn is_sound_at(memory: &[u8], i: usize, k: usize, table: &[u8]) -> bool
     requires { ⌜ (i < 32) × (k ≤ 2_048) × (size ≤ length (now memory)) × (now table ≡ classTable) ⌝ }
     ensures { λ r. ⌜ r ≡ soundAt (now (memory .entry)) i k ⌝ }
 {
@@ -144,7 +147,7 @@ fn is_sound_at(memory: &[u8], i: usize, k: usize, table: &[u64]) -> bool
 }
 
 // Are n shipments sound, each by itself?
-pub fn are_sound(memory: &[u8], n: usize, table: &[u64]) -> bool
+pub fn are_sound(memory: &[u8], n: usize, table: &[u8]) -> bool
     requires { ⌜ (n ≤ 32) × (size ≤ length (now memory)) × (now table ≡ classTable) ⌝ }
     ensures { λ r. ⌜ r ≡ soundFrom (now (memory .entry)) 0 0 n ⌝ }
 {

@@ -1,4 +1,4 @@
-// The rows of a shipment, added up for its soundness.
+// The rows of a shipment, taken together for its soundness.
 use memory::row::amount;
 use memory::row::class;
 use memory::row::class_table;
@@ -11,38 +11,32 @@ ghost use lib.ListN.{length};
 ghost use Rattle.memory.specs.Layout.{size};
 ghost use Rattle.memory.specs.Rows.{rowOf, classTable};
 ghost use Rattle.memory.specs.Read.{rowsFrom};
-ghost use Rattle.sound.specs.Tally.{tallied, tallyIn, tallyOf, faultyIn};
+ghost use Rattle.sound.specs.Tally.{tallied, tallyOf, faultyIn};
 
-// What is added where a fault or an amount is out of range, or a state is none.
-pub const OUT_OF_RANGE: u64 = 16_777_216;
+// The classes from here on are of states that only a Paired shipment may have.
+pub const ONLY_PAIRED: u8 = 2;
 
-// What is added, or more, where only a Paired shipment may have the state; less is the number of Faulty orders.
-pub const ONLY_PAIRED: u64 = 4_096;
+// The classes from here on are of faults out of range, and of bytes that say no state.
+pub const OUT_OF_RANGE: u8 = 4;
 
-// The sums over rows: of what soundness asks of each, and of the amounts.
+// What the rows of a shipment come to: the classes of their states joined, their amounts added up, and how many amounts are out of range.
 pub struct Tally {
-    pub classes: u64,
+    pub classes: u8,
     pub amounts: u64,
+    pub out: u64,
 }
 
-// The sums as rows are added: of their states' classes and their amounts, and how many amounts are out of range.
-struct Sums {
-    classes: u64,
-    amounts: u64,
-    out: u64,
-}
-
-// The sums with one row more.
-fn with_row(sums: Sums, row: &[u8], table: &[u64]) -> Sums
-    requires { ⌜ (length (now row) ≡ 8) × (now table ≡ classTable) × (tallyIn sums .classes < 2 ^ 60) × (sums .amounts < 2 ^ 60) ⌝ }
-    ensures { λ r. ⌜ (tallyIn r ≡ tallied (tallyIn sums) (rowOf (now (row .entry)))) × (r .amounts < sums .amounts + 2 ^ 32) ⌝ }
+// The tally with one row more.
+fn with_row(tally: Tally, row: &[u8], table: &[u8]) -> Tally
+    requires { ⌜ (length (now row) ≡ 8) × (now table ≡ classTable) × (tally .amounts < 2 ^ 60) × (tally .out < 2 ^ 60) ⌝ }
+    ensures { λ r. ⌜ (r ≡ tallied tally (rowOf (now (row .entry)))) × (r .amounts < tally .amounts + 2 ^ 32) ⌝ }
 {
     let amount = amount(row);
     let fits = is_between(1, Amount::ORDER_CAP, amount);
-    let classes = sums.classes + class(row, table);
-    let amounts = sums.amounts + amount;
-    let out = sums.out + !fits as u64;
-    Sums {
+    let classes = tally.classes | class(row, table);
+    let amounts = tally.amounts + amount;
+    let out = tally.out + !fits as u64;
+    Tally {
         classes: classes,
         amounts: amounts,
         out: out,
@@ -50,11 +44,11 @@ fn with_row(sums: Sums, row: &[u8], table: &[u64]) -> Sums
 }
 
 // The tally of the n rows from the k-th on, by the table of classes.
-pub fn tally_by(memory: &[u8], k: usize, n: usize, table: &[u64]) -> Tally
+pub fn tally_by(memory: &[u8], k: usize, n: usize, table: &[u8]) -> Tally
     requires { ⌜ (k + n ≤ 2_048) × (size ≤ length (now memory)) × (now table ≡ classTable) ⌝ }
     ensures { λ r. ⌜ (r ≡ tallyOf (rowsFrom (now (memory .entry)) k n)) × (r .amounts ≤ n * 2 ^ 32) ⌝ }
 {
-    let mut sums = Sums {
+    let mut tally = Tally {
         classes: 0,
         amounts: 0,
         out: 0,
@@ -62,15 +56,11 @@ pub fn tally_by(memory: &[u8], k: usize, n: usize, table: &[u64]) -> Tally
     let mut i = k;
     let mut left = n;
     while 0 < left {
-        sums = with_row(sums, row_bytes(memory, i), table);
+        tally = with_row(tally, row_bytes(memory, i), table);
         i += 1;
         left -= 1;
     }
-    let classes = sums.classes + OUT_OF_RANGE * sums.out;
-    Tally {
-        classes: classes,
-        amounts: sums.amounts,
-    }
+    tally
 }
 
 // The tally of the n rows from the k-th on.
@@ -86,5 +76,5 @@ pub fn tally_rows(memory: &[u8], k: usize, n: usize) -> Tally
 pub fn has_faulty(tally: Tally) -> bool
     ensures { λ r. ⌜ r ≡ faultyIn tally ⌝ }
 {
-    0 < tally.classes % ONLY_PAIRED
+    tally.classes % 2 == 1
 }

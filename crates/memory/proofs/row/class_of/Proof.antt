@@ -4,9 +4,6 @@ use borrow.Author.Needs.{needs}
 use Rattle.memory.proofs.row.class_of.Statement.{statement}
 use Rattle.memory.proofs.row.class_of.Tie as tie
 
-mul-result : tie.Need-mul-result
-mul-result c = search needs
-
 shared-slice-read-result : tie.Need-shared-slice-read-result
 shared-slice-read-result c = let long = table-long _ (c .before .pre) in search needs
 
@@ -14,4 +11,4 @@ returns : tie.Need-returns
 returns c = class-there _ (c .before .pre) (c .before .args .code) (search needs)
 
 pub class-of-spec : {M : Type 1} → statement M
-class-of-spec = tie.close (tie.spec mul-result shared-slice-read-result returns)
+class-of-spec = tie.close (tie.spec shared-slice-read-result returns)

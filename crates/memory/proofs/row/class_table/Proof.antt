@@ -17,14 +17,8 @@ loop-holds : tie.Need-loop-holds Inv-loop μ-loop
 unfolding stateOf classTable
 loop-holds c = refl
 
-mul-table : tie.Need-mul-table Inv-loop μ-loop
-mul-table c = search needs
-
 array-read-table : tie.Need-array-read-table Inv-loop μ-loop
 array-read-table c = search needs
-
-mul-table-2 : tie.Need-mul-table-2 Inv-loop μ-loop
-mul-table-2 c = search needs
 
 array-write-table : tie.Need-array-write-table Inv-loop μ-loop
 array-write-table c = search needs
@@ -44,4 +38,4 @@ returns c = copied-all _ _ _ (c .loop-test .left) ∙ c .before .loop .inv
 pub class-table-spec : {M : Type 1} → statement M
 class-table-spec =
     tie.close
-    (tie.spec Inv-loop μ-loop loop-holds mul-table array-read-table mul-table-2 array-write-table add-code loop-less loop-again returns)
+    (tie.spec Inv-loop μ-loop loop-holds array-read-table array-write-table add-code loop-less loop-again returns)

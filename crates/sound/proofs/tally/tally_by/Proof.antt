@@ -1,15 +1,14 @@
--- `sound::tally::tally_by` adds row after row: what is tallied and what is left give the whole.
+-- `sound::tally::tally_by` takes row after row: what is tallied and what is left give the whole.
 use Rattle.sound.proofs.Tallying.{Tallying, tally-begun, tally-on, tally-done}
-use Rattle.sound.specs.Tally.{tallyIn}
 use borrow.Author.Needs.{needs}
 use Rattle.sound.proofs.tally.tally_by.Statement.{statement}
 use Rattle.sound.proofs.tally.tally_by.Tie as tie
 
 abbrev Inv-loop : tie.InvT-loop
-Inv-loop memory k n table sums₀ i₀ left₀ sums i left = Tallying memory k n (tallyIn sums) i left
+Inv-loop memory k n table tally₀ i₀ left₀ tally i left = Tallying memory k n tally i left
 
 abbrev μ-loop : tie.MeasureT-loop
-μ-loop memory k n table sums₀ i₀ left₀ sums i left = left
+μ-loop memory k n table tally₀ i₀ left₀ tally i left = left
 
 loop-holds : tie.Need-loop-holds Inv-loop μ-loop
 loop-holds c = tally-begun
@@ -34,14 +33,8 @@ loop-again c =
     let next = c .with-row .ensures in
     tally-on (c .before .before .before .loop .inv) (search needs) (c .before .row-bytes .ensures .0) (next .0) (next .1)
 
-mul-classes : tie.Need-mul-classes Inv-loop μ-loop
-mul-classes c = search needs
-
-add-classes : tie.Need-add-classes Inv-loop μ-loop
-add-classes c = search needs
-
 returns : tie.Need-returns Inv-loop μ-loop
-returns c = tally-done (c .before .before .before .loop .inv) (search needs)
+returns c = tally-done (c .before .loop .inv) (search needs)
 
 pub tally-by-spec : {M : Type 1} → statement M
 tally-by-spec =
@@ -56,6 +49,4 @@ tally-by-spec =
     sub-left
     loop-less
     loop-again
-    mul-classes
-    add-classes
     returns)

@@ -1,7 +1,6 @@
--- `sound::tally::with_row` adds a row to the sums.
+-- `sound::tally::with_row` adds a row to the tally.
 use mathlib.Core.Bool.{not}
-use Rattle.sound.proofs.RowSums.{class-low, flag-low}
-use Rattle.sound.proofs.Tallying.{sums-next}
+use Rattle.sound.proofs.Tallying.{flag-low, row-next}
 use Rattle.memory.specs.Rows.{rowOf}
 use borrow.Author.Needs.{needs}
 use Rattle.sound.proofs.tally.with_row.Statement.{statement}
@@ -15,12 +14,6 @@ is-between-requires c κs = search needs
 
 class-requires : tie.Need-class-requires
 class-requires c κs = search needs
-
-add-classes : tie.Need-add-classes
-add-classes c =
-    let row = rowOf (c .before .before .before .before .before .before .args .row .now) in
-    let low = class-low row _ (c .before .class .ensures) in
-    search needs
 
 add-amounts : tie.Need-add-amounts
 add-amounts c = search needs
@@ -37,17 +30,7 @@ returns c =
     let amount = class .before .before in
     let start = amount .before .before .before .args in
     let fits = class .before .is-between .ensures in
-    (sums-next (start .sums) (rowOf (start .row .now)) _ _ _ (class .class .ensures) (amount .amount .ensures .0) fits, search needs)
+    (row-next (start .tally) (rowOf (start .row .now)) _ _ _ (class .class .ensures) (amount .amount .ensures .0) fits, search needs)
 
 pub with-row-spec : {M : Type 1} → statement M
-with-row-spec =
-    tie.close
-    (tie.spec
-    amount-requires
-    is-between-requires
-    class-requires
-    add-classes
-    add-amounts
-    cast-out
-    add-out
-    returns)
+with-row-spec = tie.close (tie.spec amount-requires is-between-requires class-requires add-amounts cast-out add-out returns)
