@@ -1,5 +1,6 @@
 pub mod Frames
 pub mod RowLaws
+pub mod RowWalks
 pub mod Storing
 pub mod Finding
 pub mod Changing

@@ -1,25 +1,28 @@
--- A shipment's needs and faults, by the tally of its rows.
+-- A shipment's needs and faults, by its rows in memory.
 -- Assumes nothing.
 use mathlib.Core.Path.{_≡_, refl, sym, ap, _∙_}
-use mathlib.Core.Bool.{Bool, true, false, not, _&&_, _||_}
+use mathlib.Core.Bool.{Bool, true, false, not, _&&_, _||_, false≢true}
 use mathlib.Core.List.{List}
 use Prim.Native.Nat.{ℕ, _+_, _*_, _-_, _≤_}
 use native.Mathlib.Omega.{arith}
 use borrow.Author.Tests.{leb-true, leb-false, lt-ltb, le-ltb}
 use lib.Dec.{leb, ltb}
+use lib.ListN.{getD}
 use Rattle.text.proofs.Branches.{either-way}
 use Rattle.money.specs.declared.Money.the-variants.{K, O}
-use Rattle.model.specs.Shipment.{Shipment, need, anyFaulty}
+use Rattle.model.specs.Shipment.{Shipment, isWaiting, need, sum, anyFaulty}
+use Rattle.model.specs.Sound.{rowsSound}
+use Rattle.model.specs.declared.Row.{Row}
+use Rattle.model.specs.declared.Stage.{Stage}
+use Rattle.model.specs.declared.Stage.the-variants.{Waiting, Paired, Closed}
+use Rattle.model.proofs.SoundParts.{in-order}
 use Rattle.memory.specs.Number.{numberAt}
 use Rattle.memory.specs.Layout.{headBytes}
-use Rattle.memory.specs.Heads.{shipmentIn}
+use Rattle.memory.specs.Heads.{stageOf, shipmentIn}
 use Rattle.memory.specs.Read.{rowsFrom, ordersAt, shipmentAt}
-use Rattle.sound.specs.Tally.{tallyOf, faultyIn}
-use Rattle.sound.specs.declared.tally.Tally.{Tally}
 use Rattle.sound.proofs.ReadLaws.{rows-many}
-use Rattle.sound.proofs.RowClasses.{any-faulty}
 use Rattle.book.specs.Place.{Sits}
-use Rattle.book.proofs.HeadFields.{orders-are, fee-is}
+use Rattle.book.proofs.HeadFields.{orders-are, fee-is, waiting-is}
 
 -- nothing is missing of a need that is covered
 pub covered-is : (needed accepted : ℕ) → leb needed accepted ≡ not (ltb 0 (needed - accepted))
@@ -27,6 +30,11 @@ covered-is needed accepted =
     either-way (leb needed accepted)
     (λ within. rw (within, le-ltb 0 (needed - accepted) (omega (arith, leb-true needed accepted within))))
     (λ over. rw (over, lt-ltb 0 (needed - accepted) (omega (arith, leb-false needed accepted over))))
+
+stage-is : (stage : Stage) → isWaiting stage ≡ true → stage ≡ Waiting
+stage-is Waiting h = refl
+stage-is Paired h = absurd (false≢true h)
+stage-is Closed h = absurd (false≢true h)
 
 pub neither : (t u : Bool) → (not t && not u) ≡ not (t || u)
 neither true u = refl
@@ -52,15 +60,18 @@ module _ (m : List ℕ) (i k : ℕ) (sits : Sits m i k) {head : List ℕ} (is-he
   pub need-in-fees : {fees : ℕ} → fees ≡ n * numberAt 4 head 24 → fees ≡ need O s
   need-in-fees are = are ∙ fees-are
 
-  module _ {tally : Tally} (is-tally : tally ≡ tallyOf (rowsFrom m k n)) where
-    tally-is : tally ≡ tallyOf (s .rows)
-    unfolding shipmentIn
-    tally-is = is-tally ∙ ap (λ count. tallyOf (rowsFrom m k count)) count-is
+  rows-are : rowsFrom m k n ≡ s .rows
+  unfolding shipmentIn
+  rows-are = ap (rowsFrom m k) count-is
 
-    pub need-in-amounts : tally .amounts ≡ need K s
-    unfolding need
-    need-in-amounts = ap (λ (tally : Tally). tally .amounts) tally-is
+  pub need-in-amounts : {amounts : ℕ} → amounts ≡ sum (λ (row : Row). row .amount .0) (rowsFrom m k n) → amounts ≡ need K s
+  unfolding need
+  need-in-amounts are = are ∙ ap (sum (λ (row : Row). row .amount .0)) rows-are
 
-    pub faulty-is : faultyIn tally ≡ anyFaulty (s .rows)
-    unfolding shipmentIn
-    faulty-is = ap faultyIn tally-is ∙ sym (any-faulty (s .rows))
+  pub faulty-is : anyFaulty (rowsFrom m k n) ≡ anyFaulty (s .rows)
+  faulty-is = ap anyFaulty rows-are
+
+  pub rows-waiting : {waiting : Bool} → waiting ≡ isWaiting (stageOf (getD head 28 0)) → waiting ≡ true → rowsSound Waiting (rowsFrom m k n) ≡ true
+  rows-waiting is-waiting held =
+      let here = sym (is-waiting ∙ waiting-is m i k is-head) ∙ held in
+      (λ t. rowsSound (sym (stage-is (s .stage) here) t) (rows-are t)) ∙ in-order s (sits .sound) .rows-sound

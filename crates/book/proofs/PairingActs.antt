@@ -1,21 +1,20 @@
 -- A go-ahead and pairing, at the place of a shipment.
 -- Assumes nothing.
 use mathlib.Core.Path.{_≡_, refl, sym, ap, _∙_}
-use mathlib.Core.Bool.{Bool, true, false, not, _&&_, _||_}
+use mathlib.Core.Bool.{Bool, true, false, not, _&&_, _||_, or-comm}
 use mathlib.Core.List.{List}
 use Prim.Native.Nat.{ℕ, _+_, _*_, _-_}
 use lib.Dec.{leb, ltb}
 use lib.ListN.{getD, set}
 use Rattle.money.specs.declared.Money.the-variants.{K, O}
-use Rattle.model.specs.Shipment.{Shipment, accepted, isWaiting, need, anyFaulty}
+use Rattle.model.specs.Shipment.{Shipment, accepted, isWaiting, need, sum, anyFaulty}
 use Rattle.model.specs.Calls.{Refused, Done, IsPaired, Short, Outcome, leave, choose, goneAhead, paired}
+use Rattle.model.specs.declared.Row.{Row}
 use Rattle.model.specs.declared.Stage.the-variants.{Paired}
 use Rattle.memory.specs.Number.{numberAt}
 use Rattle.memory.specs.Layout.{headAt, headBytes}
 use Rattle.memory.specs.Heads.{stageOf, stageByte, goAheadIn, acceptedAt}
 use Rattle.memory.specs.Read.{rowsFrom, shipmentAt}
-use Rattle.sound.specs.Tally.{tallyOf, faultyIn}
-use Rattle.sound.specs.declared.tally.Tally.{Tally}
 use Rattle.book.specs.Place.{Sits, ActAt}
 use Rattle.book.proofs.HeadFields.{waiting-is, go-ahead-is, accepted-is}
 use Rattle.book.proofs.Acting.{ask-yes, ask-no, left-at, refused-at}
@@ -47,11 +46,11 @@ module _ (m : List ℕ) (i k : ℕ) (sits : Sits m i k) {head : List ℕ} (is-he
     unfolding paired
     no-pairing-at other = refused-at (ask-no _ 15 _ _ (waiting-test ∙ other))
 
-    module _ (held : waiting ≡ true) {n : ℕ} (is-count : n ≡ numberAt 2 head 30) {tally : Tally} (is-tally : tally ≡ tallyOf (rowsFrom m k n)) where
+    module _ (held : waiting ≡ true) {n : ℕ} (is-count : n ≡ numberAt 2 head 30) where
       -- "Any faulty order? 16. None came before? 17."
-      module _ {faulty : Bool} (is-faulty : faulty ≡ faultyIn tally) where
+      module _ {faulty : Bool} (is-faulty : faulty ≡ anyFaulty (rowsFrom m k n)) where
         faulty-test : faulty ≡ anyFaulty (s .rows)
-        faulty-test = is-faulty ∙ faulty-is m i k sits is-head is-count is-tally
+        faulty-test = is-faulty ∙ faulty-is m i k sits is-head is-count
 
         pub no-faults-at : faulty ≡ false → ActAt m i k goneAhead (Refused 16) m
         unfolding goneAhead
@@ -78,21 +77,23 @@ module _ (m : List ℕ) (i k : ℕ) (sits : Sits m i k) {head : List ℕ} (is-he
               ∙ ask-yes _ 17 _ _ (ap not (sym came-test ∙ first)))
 
       -- "No faults, or go-ahead given? 18. Paired when both needs are covered; Short changes nothing."
-      module _ {may : Bool} (is-may : may ≡ (not (faultyIn tally) || goAheadIn head)) where
+      module _ {may : Bool} (is-may : may ≡ (goAheadIn head || not (anyFaulty (rowsFrom m k n)))) where
         may-test : (not (anyFaulty (s .rows)) || s .goAhead) ≡ may
-        may-test = sym (is-may ∙ (λ t. not (faulty-is m i k sits is-head is-count is-tally t) || go-ahead-is m i k is-head t))
+        may-test =
+            or-comm (not (anyFaulty (s .rows))) (s .goAhead)
+            ∙ sym (is-may ∙ (λ t. go-ahead-is m i k is-head t || not (faulty-is m i k sits is-head is-count t)))
 
         pub faults-at : may ≡ false → ActAt m i k paired (Refused 18) m
         unfolding paired
         faults-at barred = refused-at (ask-yes _ 15 _ _ (waiting-test ∙ held) ∙ ask-no _ 18 _ _ (may-test ∙ barred))
 
-        module _ (free : may ≡ true) {amount fee fees k-in o-in : ℕ} (is-amount : amount ≡ tally .amounts - k-in) (is-fee : fee ≡ fees - o-in)
-            (are-fees : fees ≡ n * numberAt 4 head 24) (is-k-in : k-in ≡ numberAt 8 head (acceptedAt K)) (is-o-in : o-in ≡ numberAt 8 head (acceptedAt O))
+        module _ (free : may ≡ true) {amount fee amounts fees k-in o-in : ℕ} (is-amount : amount ≡ amounts - k-in) (is-fee : fee ≡ fees - o-in)
+            (are-amounts : amounts ≡ sum (λ (row : Row). row .amount .0) (rowsFrom m k n)) (are-fees : fees ≡ n * numberAt 4 head 24) (is-k-in : k-in ≡ numberAt 8 head (acceptedAt K)) (is-o-in : o-in ≡ numberAt 8 head (acceptedAt O))
             {short : Bool} (is-short : short ≡ (ltb 0 amount || ltb 0 fee)) where
           amount-is : amount ≡ need K s - accepted K s
           amount-is =
               is-amount
-              ∙ (λ t. need-in-amounts m i k sits is-head is-count is-tally t - (is-k-in ∙ accepted-is m i k is-head K) t)
+              ∙ (λ t. need-in-amounts m i k sits is-head is-count are-amounts t - (is-k-in ∙ accepted-is m i k is-head K) t)
 
           fee-is : fee ≡ need O s - accepted O s
           fee-is = is-fee ∙ (λ t. need-in-fees m i k sits is-head is-count are-fees t - (is-o-in ∙ accepted-is m i k is-head O) t)

@@ -5,6 +5,7 @@ mod order;
 mod place;
 pub mod refusals;
 mod route;
+mod rows;
 mod shipment;
 mod surplus;
 

@@ -2,6 +2,8 @@
 use crate::answer::Pairing;
 use crate::answer::Reply;
 use crate::refusals;
+use crate::rows::amounts_in;
+use crate::rows::has_faulty_in;
 use memory::head::accepted;
 use memory::head::has_go_ahead;
 use memory::head::head_bytes;
@@ -15,18 +17,19 @@ use money::Amount;
 use money::Fee;
 use money::Money;
 use sound::shipment::fees;
-use sound::tally::Tally;
-use sound::tally::has_faulty;
-use sound::tally::tally_rows;
 ghost use mathlib.Core.Path.{_≡_};
-ghost use mathlib.Core.Bool.{not, _||_};
-ghost use Prim.Native.Nat.{_-_, _≤_};
+ghost use mathlib.Core.Bool.{true, not, _||_};
+ghost use Prim.Native.Nat.{_+_, _-_, _≤_};
 ghost use lib.Dec.{ltb};
 ghost use lib.ListN.{length};
 ghost use Rattle.money.specs.Money.{sumCap};
+ghost use Rattle.model.specs.Shipment.{anyFaulty};
 ghost use Rattle.model.specs.Calls.{transferred, goneAhead, paired, closed};
+ghost use Rattle.model.specs.Sound.{rowsSound};
+ghost use Rattle.model.specs.declared.Stage.the-variants.{Waiting};
+ghost use Rattle.memory.specs.Layout.{size};
 ghost use Rattle.memory.specs.Heads.{goAheadIn};
-ghost use Rattle.sound.specs.Tally.{faultyIn};
+ghost use Rattle.memory.specs.Read.{rowsFrom};
 ghost use Rattle.book.specs.Answers.{replyOf, pairingOf};
 ghost use Rattle.book.specs.Place.{Sits, ActAt};
 
@@ -64,8 +67,7 @@ pub fn go_ahead_at(memory: &mut [u8], i: usize, k: usize) -> Reply
     if !is_waiting(head) {
         return Reply::Refused(refusals::NOT_WAITING);
     }
-    let tally = tally_rows(memory, k, orders(head) as usize);
-    if !has_faulty(tally) {
+    if !has_faulty_in(memory, k, orders(head) as usize) {
         return Reply::Refused(refusals::NO_FAULTS);
     }
     if has_go_ahead(head) {
@@ -75,12 +77,12 @@ pub fn go_ahead_at(memory: &mut [u8], i: usize, k: usize) -> Reply
     Reply::Done
 }
 
-// Has the shipment no faults, or a go-ahead?
-fn may_pair(head: &[u8], tally: Tally) -> bool
-    requires { ⌜ length (now head) ≡ 64 ⌝ }
-    ensures { λ r. ⌜ r ≡ (not (faultyIn tally) || goAheadIn (now (head .entry))) ⌝ }
+// Has the shipment of this head and the n rows from the k-th on a go-ahead, or no faults?
+fn may_pair(head: &[u8], memory: &[u8], k: usize, n: usize) -> bool
+    requires { ⌜ (length (now head) ≡ 64) × (k + n ≤ 2_048) × (size ≤ length (now memory)) × (rowsSound Waiting (rowsFrom (now memory) k n) ≡ true) ⌝ }
+    ensures { λ r. ⌜ r ≡ (goAheadIn (now (head .entry)) || not (anyFaulty (rowsFrom (now (memory .entry)) k n))) ⌝ }
 {
-    !has_faulty(tally) || has_go_ahead(head)
+    has_go_ahead(head) || !has_faulty_in(memory, k, n)
 }
 
 // What is missing of a need.
@@ -110,11 +112,10 @@ pub fn pair_at(memory: &mut [u8], i: usize, k: usize) -> Pairing
         return Pairing::Refused(refusals::NOT_WAITING);
     }
     let n = orders(head);
-    let tally = tally_rows(memory, k, n as usize);
-    if !may_pair(head, tally) {
+    if !may_pair(head, memory, k, n as usize) {
         return Pairing::Refused(refusals::FAULTS);
     }
-    let amount = missing(tally.amounts, accepted(head, Money::K));
+    let amount = missing(amounts_in(memory, k, n as usize), accepted(head, Money::K));
     let fee = missing(fees(head, n), accepted(head, Money::O));
     if is_short(amount, fee) {
         return Pairing::Short(Amount(amount), Fee(fee));

@@ -2,6 +2,7 @@
 use crate::answer::Returning;
 use crate::refusals;
 use crate::route::returning;
+use crate::rows::amounts_in;
 use memory::head::accepted;
 use memory::head::head_bytes;
 use memory::head::is_paired;
@@ -11,7 +12,6 @@ use memory::head::returned;
 use memory::head::store_returned;
 use money::Money;
 use sound::shipment::fees;
-use sound::tally::tally_rows;
 ghost use mathlib.Core.Path.{_≡_};
 ghost use Rattle.model.specs.Shipment.{needOncePaired, free};
 ghost use Rattle.model.specs.Calls.{surplusReturned};
@@ -30,7 +30,7 @@ fn need_at(memory: &[u8], i: usize, k: usize, money: Money) -> u64
     }
     let n = orders(head);
     match money {
-        Money::K => tally_rows(memory, k, n as usize).amounts,
+        Money::K => amounts_in(memory, k, n as usize),
         Money::O => fees(head, n),
     }
 }

@@ -32,6 +32,11 @@ stored-is-read (suc width) m at n =
       as-long = rest .as-long ∙ length-set m at (n % 256);
     }
 
+-- the lowest byte
+pub lowest-byte : (width : ℕ) (m : List ℕ) (at : ℕ) → getD m at 0 < 256 → numberAt (suc width) m at % 256 ≡ getD m at 0
+unfolding numberAt
+lowest-byte width m at byte = omega arith
+
 -- two bytes one by one, and four and eight as two halves
 module _ (m : List ℕ) (at : ℕ) where
   second : at + 1 ≡ suc at

@@ -1,13 +1,13 @@
 -- A state is read back from its byte, and stored in a row changes that row's state alone; a return changes a row by its byte.
 -- Assumes nothing.
 use mathlib.Core.Path.{_≡_, refl, sym, ap, _∙_}
-use mathlib.Core.Bool.{Bool, true, false, cond, _&&_, _||_}
+use mathlib.Core.Bool.{Bool, true, false, not, cond, _&&_, _||_}
 use mathlib.Core.List.{List, [], _∷_}
 use Prim.Native.Nat.{ℕ, zero, suc, _+_, _-_, _/_, _%_, _<_, _≤_}
 use native.Mathlib.Numerals.{add-one}
 use native.Mathlib.Omega.{arith}
 use borrow.Author.Tests.{eqb-true, eqb-false, leb-true, ne-eqb}
-use lib.Dec.{eqb, leb}
+use lib.Dec.{eqb, leb, ltb}
 use lib.ListN.{length, getD, set, drop, length-set}
 use lib.Seq.{getD-set-same, getD-set-other, getD-take, getD-drop, set-getD}
 use Rattle.text.specs.Bytes.{same}
@@ -16,13 +16,15 @@ use Rattle.text.proofs.Same.{same-equal}
 use Rattle.calendar.proofs.Computed.{below, each}
 use Rattle.money.specs.declared.Money.{Money}
 use Rattle.money.specs.declared.Money.the-variants.{K, O}
-use Rattle.model.specs.Shipment.{of, when}
+use Rattle.model.specs.Shipment.{of, when, isFaulty}
 use Rattle.model.specs.Calls.{withState, waitsOn, cleared, afterReturn}
+use Rattle.model.specs.Sound.{faultInRange, beforePairing}
 use Rattle.model.specs.declared.Route.{Route}
 use Rattle.model.specs.declared.Route.the-variants.{Zwr, Opr, Zpr, Zzr}
 use Rattle.model.specs.declared.Row.{Row}
 use Rattle.model.specs.declared.State.{State}
 use Rattle.model.specs.declared.State.the-variants.{Open, Posted, Paid, Faulty, Undelivered, Withdrawn}
+use Rattle.model.proofs.SoundParts.{where-first}
 use Rattle.memory.specs.Number.{numberAt}
 use Rattle.memory.specs.Layout.{size, rowAt, rowBytes}
 use Rattle.memory.specs.Rows.{kWaits, oWaits, stateOf, rowOf, codeOf, withCodeAt, StateIsReadBack, CodeStored}
@@ -167,6 +169,15 @@ module _ (route : Route) (money : Money) (code : ℕ) (byte : code < 256) where
 
   after-by-code : stateOf (codeAfter route money code) ≡ stateAfter route money (stateOf code)
   after-by-code = alike-equal _ _ (and-right waiting after right)
+
+-- before pairing, every state but Open is Faulty, and the byte of Open is 0
+faulty-right : ℕ → Bool
+faulty-right code = not (faultInRange (stateOf code) && beforePairing (stateOf code)) || agree (isFaulty (stateOf code)) (ltb 0 code)
+
+pub faulty-by-code : (code : ℕ) → code < 256 → (faultInRange (stateOf code) && beforePairing (stateOf code)) ≡ true
+    → isFaulty (stateOf code) ≡ ltb 0 code
+unfolding faulty-right agree stateOf
+faulty-by-code code byte before = agree-equal _ _ (where-first _ _ (each faulty-right 256 refl code byte) before)
 
 returned-row : (route : Route) (money : Money) (row : Row) → withState (stateAfter route money (row .state)) row ≡ afterReturn route money row
 returned-row route money row = by (waitsOn route money row)

@@ -12,6 +12,7 @@ ghost use lib.ListN.{length};
 ghost use Rattle.money.specs.declared.Money.{Money};
 ghost use Rattle.model.specs.Shipment.{of};
 ghost use Rattle.model.specs.declared.Route.{Route};
+ghost use Rattle.memory.specs.Number.{numberAt};
 ghost use Rattle.memory.specs.Layout.{size, rowBytes};
 ghost use Rattle.memory.specs.Rows.{kWaits, oWaits, stateOf, rowOf, waitsCode, codeOf, withCodeAt, routeHas, codeWaits, waitIn, WaitTable, IsWaitTable, RowReturned, classOf, classTable};
 
@@ -139,6 +140,14 @@ pub fn amount(row: &[u8]) -> u64
     ensures { λ r. ⌜ (r ≡ rowOf (now (row .entry)) .amount .0) × (r < 2 ^ 32) ⌝ }
 {
     read_four(row, 0)
+}
+
+// The byte of state with the free bytes behind it, lowest first. A loop reads these four of many rows at a time, as it does an amount.
+pub fn state_bits(row: &[u8]) -> u64
+    requires { ⌜ length (now row) ≡ 8 ⌝ }
+    ensures { λ r. ⌜ (r ≡ numberAt 4 (now (row .entry)) 4) × (stateOf (r % 256) ≡ rowOf (now (row .entry)) .state) ⌝ }
+{
+    read_four(row, 4)
 }
 
 // The row that eight bytes say.

@@ -1,7 +1,7 @@
 // Whether lent memory is a sound book, judged in one pass over its heads and rows.
 mod apart;
 pub mod shipment;
-pub mod tally;
+mod tally;
 
 use crate::apart::are_apart;
 use crate::shipment::are_sound;

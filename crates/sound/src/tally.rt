@@ -1,7 +1,6 @@
 // The rows of a shipment, taken together for its soundness.
 use memory::row::amount;
 use memory::row::class;
-use memory::row::class_table;
 use memory::row::row_bytes;
 use money::Amount;
 use text::number::is_between;
@@ -61,15 +60,6 @@ pub fn tally_by(memory: &[u8], k: usize, n: usize, table: &[u8]) -> Tally
         left -= 1;
     }
     tally
-}
-
-// The tally of the n rows from the k-th on.
-pub fn tally_rows(memory: &[u8], k: usize, n: usize) -> Tally
-    requires { ⌜ (k + n ≤ 2_048) × (size ≤ length (now memory)) ⌝ }
-    ensures { λ r. ⌜ (r ≡ tallyOf (rowsFrom (now (memory .entry)) k n)) × (r .amounts ≤ n * 2 ^ 32) ⌝ }
-{
-    let table = class_table();
-    tally_by(memory, k, n, &table)
 }
 
 // Is any of the rows Faulty?

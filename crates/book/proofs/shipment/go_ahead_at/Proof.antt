@@ -1,6 +1,6 @@
 -- `book::shipment::go_ahead_at` asks 15, 16 and 17, then stores the go-ahead.
 use Rattle.book.proofs.PairingActs.{no-go-ahead-at, no-faults-at, second-at, gone-ahead-at}
-use Rattle.book.proofs.Needs.{room-at}
+use Rattle.book.proofs.Needs.{room-at, rows-waiting}
 use borrow.Author.Tests.{not-true, not-false}
 use borrow.Author.Needs.{needs}
 use Rattle.book.proofs.shipment.go_ahead_at.Statement.{statement}
@@ -25,14 +25,18 @@ returns c =
 orders-requires : tie.Need-orders-requires
 orders-requires c κs = search needs
 
-tally-rows-requires : tie.Need-tally-rows-requires
-tally-rows-requires c κs =
-    let head = c .before .before .before in
+has-faulty-in-requires : tie.Need-has-faulty-in-requires
+has-faulty-in-requires c κs =
+    let else-waiting = c .before in
+    let waiting = else-waiting .before in
+    let head = waiting .before in
     let start = head .before .before .before in
-    (room-at _ (start .args .i) _ (start .pre) (head .head-bytes .ensures .0) (c .orders .ensures .0), start .pre .enough)
-
-has-faulty-requires : tie.Need-has-faulty-requires
-has-faulty-requires c κs = search needs
+    let count = c .orders .ensures .0 in
+    let is-head = head .head-bytes .ensures .0 in (
+      room-at _ (start .args .i) _ (start .pre) is-head count,
+      start .pre .enough,
+      rows-waiting _ (start .args .i) _ (start .pre) is-head count (waiting .is-waiting .ensures) (not-false _ (else-waiting .if1 .left)),
+    )
 
 same-length-2 : tie.Need-same-length-2
 same-length-2 c = search needs
@@ -40,14 +44,13 @@ same-length-2 c = search needs
 returns-2 : tie.Need-returns-2
 returns-2 c =
     let faulty = c .before in
-    let tallied = faulty .before in
-    let counted = tallied .before in
+    let counted = faulty .before in
     let else-waiting = counted .before in
     let waiting = else-waiting .before in
     let head = waiting .before in
     let start = head .before .before .before in
     no-faults-at _ _ _ (start .pre) (head .head-bytes .ensures .0) (waiting .is-waiting .ensures) (not-false _ (else-waiting .if1 .left))
-    (counted .orders .ensures .0) (tallied .tally-rows .ensures .0) (faulty .has-faulty .ensures) (not-true _ (c .if2 .taken))
+    (counted .orders .ensures .0) (faulty .has-faulty-in .ensures) (not-true _ (c .if2 .taken))
 
 has-go-ahead-requires : tie.Need-has-go-ahead-requires
 has-go-ahead-requires c κs = search needs
@@ -60,14 +63,13 @@ returns-3 c =
     let came = c .before in
     let some = came .before in
     let faulty = some .before in
-    let tallied = faulty .before in
-    let counted = tallied .before in
+    let counted = faulty .before in
     let else-waiting = counted .before in
     let waiting = else-waiting .before in
     let head = waiting .before in
     let start = head .before .before .before in
     second-at _ _ _ (start .pre) (head .head-bytes .ensures .0) (waiting .is-waiting .ensures) (not-false _ (else-waiting .if1 .left))
-    (counted .orders .ensures .0) (tallied .tally-rows .ensures .0) (faulty .has-faulty .ensures) (not-false _ (some .if2 .left)) (came .has-go-ahead .ensures) (c .if3 .taken)
+    (counted .orders .ensures .0) (faulty .has-faulty-in .ensures) (not-false _ (some .if2 .left)) (came .has-go-ahead .ensures) (c .if3 .taken)
 
 store-go-ahead-requires : tie.Need-store-go-ahead-requires
 store-go-ahead-requires c κs = search needs
@@ -82,15 +84,14 @@ returns-4 c =
     let came = none .before in
     let some = came .before in
     let faulty = some .before in
-    let tallied = faulty .before in
-    let counted = tallied .before in
+    let counted = faulty .before in
     let else-waiting = counted .before in
     let waiting = else-waiting .before in
     let head = waiting .before in
     let start = head .before .before .before in
     rw (stored .store-go-ahead .ensures)
     (gone-ahead-at _ _ _ (start .pre) (head .head-bytes .ensures .0) (waiting .is-waiting .ensures) (not-false _ (else-waiting .if1 .left))
-    (counted .orders .ensures .0) (tallied .tally-rows .ensures .0) (faulty .has-faulty .ensures) (not-false _ (some .if2 .left)) (came .has-go-ahead .ensures) (none .if3 .left))
+    (counted .orders .ensures .0) (faulty .has-faulty-in .ensures) (not-false _ (some .if2 .left)) (came .has-go-ahead .ensures) (none .if3 .left))
 
 pub go-ahead-at-spec : {M : Type 1} → statement M
 go-ahead-at-spec =
@@ -101,8 +102,7 @@ go-ahead-at-spec =
     same-length
     returns
     orders-requires
-    tally-rows-requires
-    has-faulty-requires
+    has-faulty-in-requires
     same-length-2
     returns-2
     has-go-ahead-requires

@@ -1,6 +1,6 @@
 -- `book::shipment::pair_at` asks 15 and 18, then whether anything is missing.
 use Rattle.book.proofs.PairingActs.{no-pairing-at, faults-at, short-at, paired-at}
-use Rattle.book.proofs.Needs.{room-at, few-at}
+use Rattle.book.proofs.Needs.{room-at, few-at, rows-waiting}
 use borrow.Author.Tests.{not-true, not-false}
 use borrow.Author.Needs.{needs}
 use Rattle.book.proofs.shipment.pair_at.Statement.{statement}
@@ -25,14 +25,19 @@ returns c =
 orders-requires : tie.Need-orders-requires
 orders-requires c κs = search needs
 
-tally-rows-requires : tie.Need-tally-rows-requires
-tally-rows-requires c κs =
-    let head = c .before .before .before in
-    let start = head .before .before .before in
-    (room-at _ (start .args .i) _ (start .pre) (head .head-bytes .ensures .0) (c .orders .ensures .0), start .pre .enough)
-
 may-pair-requires : tie.Need-may-pair-requires
-may-pair-requires c κs = search needs
+may-pair-requires c κs =
+    let else-waiting = c .before in
+    let waiting = else-waiting .before in
+    let head = waiting .before in
+    let start = head .before .before .before in
+    let count = c .orders .ensures .0 in
+    let is-head = head .head-bytes .ensures .0 in (
+      head .head-bytes .ensures .1,
+      room-at _ (start .args .i) _ (start .pre) is-head count,
+      start .pre .enough,
+      rows-waiting _ (start .args .i) _ (start .pre) is-head count (waiting .is-waiting .ensures) (not-false _ (else-waiting .if1 .left)),
+    )
 
 same-length-2 : tie.Need-same-length-2
 same-length-2 c = search needs
@@ -40,14 +45,20 @@ same-length-2 c = search needs
 returns-2 : tie.Need-returns-2
 returns-2 c =
     let asked = c .before in
-    let tallied = asked .before in
-    let counted = tallied .before in
+    let counted = asked .before in
     let else-waiting = counted .before in
     let waiting = else-waiting .before in
     let head = waiting .before in
     let start = head .before .before .before in
     faults-at _ _ _ (start .pre) (head .head-bytes .ensures .0) (waiting .is-waiting .ensures) (not-false _ (else-waiting .if1 .left))
-    (counted .orders .ensures .0) (tallied .tally-rows .ensures .0) (asked .may-pair .ensures) (not-true _ (c .if2 .taken))
+    (counted .orders .ensures .0) (asked .may-pair .ensures) (not-true _ (c .if2 .taken))
+
+amounts-in-requires : tie.Need-amounts-in-requires
+amounts-in-requires c κs =
+    let counted = c .before .before in
+    let head = counted .before .before .before in
+    let start = head .before .before .before in
+    (room-at _ (start .args .i) _ (start .pre) (head .head-bytes .ensures .0) (counted .orders .ensures .0), start .pre .enough)
 
 accepted-requires : tie.Need-accepted-requires
 accepted-requires c κs = search needs
@@ -57,8 +68,7 @@ missing-requires c κs = search needs
 
 fees-requires : tie.Need-fees-requires
 fees-requires c κs =
-    let tallied = c .before .before .before .before in
-    let counted = tallied .before in
+    let counted = c .before .before .before .before .before in
     let else-waiting = counted .before in
     let waiting = else-waiting .before in
     let head = waiting .before in
@@ -85,18 +95,18 @@ returns-3 c =
     let fees = o-in .before in
     let amount = fees .before in
     let k-in = amount .before in
-    let may = k-in .before in
+    let amounts = k-in .before in
+    let may = amounts .before in
     let asked = may .before in
-    let tallied = asked .before in
-    let counted = tallied .before in
+    let counted = asked .before in
     let else-waiting = counted .before in
     let waiting = else-waiting .before in
     let head = waiting .before in
     let start = head .before .before .before in
     short-at _ _ _ (start .pre) (head .head-bytes .ensures .0) (waiting .is-waiting .ensures) (not-false _ (else-waiting .if1 .left))
-    (counted .orders .ensures .0) (tallied .tally-rows .ensures .0) (asked .may-pair .ensures) (not-false _ (may .if2 .left))
+    (counted .orders .ensures .0) (asked .may-pair .ensures) (not-false _ (may .if2 .left))
     (amount .missing .ensures) (fee .missing2 .ensures)
-    (fees .fees .ensures .0) (k-in .accepted .ensures) (o-in .accepted2 .ensures) (short .is-short .ensures) (c .if3 .taken)
+    (amounts .amounts-in .ensures) (fees .fees .ensures .0) (k-in .accepted .ensures) (o-in .accepted2 .ensures) (short .is-short .ensures) (c .if3 .taken)
 
 store-stage-requires : tie.Need-store-stage-requires
 store-stage-requires c κs = search needs
@@ -114,19 +124,19 @@ returns-4 c =
     let fees = o-in .before in
     let amount = fees .before in
     let k-in = amount .before in
-    let may = k-in .before in
+    let amounts = k-in .before in
+    let may = amounts .before in
     let asked = may .before in
-    let tallied = asked .before in
-    let counted = tallied .before in
+    let counted = asked .before in
     let else-waiting = counted .before in
     let waiting = else-waiting .before in
     let head = waiting .before in
     let start = head .before .before .before in
     rw (stored .store-stage .ensures)
     (paired-at _ _ _ (start .pre) (head .head-bytes .ensures .0) (waiting .is-waiting .ensures) (not-false _ (else-waiting .if1 .left))
-    (counted .orders .ensures .0) (tallied .tally-rows .ensures .0) (asked .may-pair .ensures) (not-false _ (may .if2 .left))
+    (counted .orders .ensures .0) (asked .may-pair .ensures) (not-false _ (may .if2 .left))
     (amount .missing .ensures) (fee .missing2 .ensures)
-    (fees .fees .ensures .0) (k-in .accepted .ensures) (o-in .accepted2 .ensures) (short .is-short .ensures) (covered .if3 .left))
+    (amounts .amounts-in .ensures) (fees .fees .ensures .0) (k-in .accepted .ensures) (o-in .accepted2 .ensures) (short .is-short .ensures) (covered .if3 .left))
 
 pub pair-at-spec : {M : Type 1} → statement M
 pair-at-spec =
@@ -137,10 +147,10 @@ pair-at-spec =
     same-length
     returns
     orders-requires
-    tally-rows-requires
     may-pair-requires
     same-length-2
     returns-2
+    amounts-in-requires
     accepted-requires
     missing-requires
     fees-requires

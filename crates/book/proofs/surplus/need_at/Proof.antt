@@ -26,8 +26,8 @@ orders-requires c κs = search needs
 enum-told : tie.Need-enum-told
 enum-told c = search needs
 
-tally-rows-requires : tie.Need-tally-rows-requires
-tally-rows-requires c κs =
+amounts-in-requires : tie.Need-amounts-in-requires
+amounts-in-requires c κs =
     let told = c in
     let counted = told .before .before in
     let else-paired = counted .before in
@@ -59,7 +59,7 @@ returns-2 c =
     let start = head .before .before in
     rw (told .enum-told .given .1)
     (needed _ _ _ (start .pre) (head .head-bytes .ensures .0) K (paired .is-paired .ensures) (not-false _ (else-paired .if1 .left))
-    (need-in-amounts _ _ _ (start .pre) (head .head-bytes .ensures .0) (counted .orders .ensures .0) (c .tally-rows .ensures .0)))
+    (need-in-amounts _ _ _ (start .pre) (head .head-bytes .ensures .0) (counted .orders .ensures .0) (c .amounts-in .ensures)))
 
 returns-3 : tie.Need-returns-3
 returns-3 c =
@@ -82,7 +82,7 @@ need-at-spec =
     returns
     orders-requires
     enum-told
-    tally-rows-requires
+    amounts-in-requires
     enum-told-2
     fees-requires
     returns-2
