@@ -3,7 +3,7 @@
 use mathlib.Core.Path.{_≡_, refl, sym, ap, _∙_}
 use mathlib.Core.Bool.{Bool, true, false, not, cond, _&&_, _||_}
 use mathlib.Core.List.{List, [], _∷_}
-use Prim.Native.Nat.{ℕ, zero, suc, _+_, _-_, _/_, _%_, _<_, _≤_}
+use Prim.Native.Nat.{ℕ, zero, suc, min, _+_, _-_, _/_, _%_, _<_, _≤_}
 use native.Mathlib.Numerals.{add-one}
 use native.Mathlib.Omega.{arith}
 use borrow.Author.Tests.{eqb-true, eqb-false, leb-true, ne-eqb}
@@ -28,7 +28,7 @@ use Rattle.model.proofs.SoundParts.{where-first}
 use Rattle.memory.specs.Number.{numberAt}
 use Rattle.memory.specs.Layout.{size, rowAt, rowBytes}
 use Rattle.memory.specs.Rows.{kWaits, oWaits, stateOf, rowOf, codeOf, withCodeAt, StateIsReadBack, CodeStored}
-use Rattle.memory.specs.Rows.{waitsIn, stateAfter, routeHas, codeWaits, waitIn, codeAfter, WaitTable, RowReturned, classOf, listed, classTable}
+use Rattle.memory.specs.Rows.{waitsIn, stateAfter, routeHas, codeWaits, waitIn, codeAfter, WaitTable, RowReturned, classOf, listed, classTable, holdingOf, holdingTable}
 use Rattle.memory.proofs.Parts.{part-long, row-byte, row-byte-only}
 
 -- a state in numbers and back, so that two states can be compared by computation
@@ -257,6 +257,19 @@ module _ {route : Route} {money : Money} where
 
     pub told-all : 256 ≤ n → WaitTable route money table
     told-all all = record { long = so-far .long; told = λ code byte. so-far .told code (omega arith) }
+
+-- what an order holds, at each byte
+held-right : ℕ → Bool
+held-right code = eqb (getD holdingTable (min code 52) 0) (holdingOf (stateOf code))
+
+module _ (table : List ℕ) (table-is : table ≡ holdingTable) where
+  pub holdings-long : length table ≡ 53
+  unfolding holdingTable
+  holdings-long = ap length table-is
+
+  pub holding-there : (code : ℕ) → code < 256 → getD table (min code 52) 0 ≡ holdingOf (stateOf code)
+  unfolding held-right holdingTable stateOf
+  holding-there code byte = ap (λ t. getD t (min code 52) 0) table-is ∙ eqb-true _ _ (each held-right 256 refl code byte)
 
 -- the table of classes, at each byte
 listed-from : (f : ℕ → ℕ) (from n k : ℕ) → k < n → getD (listed f from n) k 0 ≡ f (from + k)

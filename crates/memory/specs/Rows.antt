@@ -7,9 +7,10 @@ use lib.Dec.{eqb}
 use lib.ListN.{length, getD, set}
 use Rattle.text.specs.Bytes.{between}
 use Rattle.money.specs.declared.Money.{Money}
+use Rattle.money.specs.declared.Money.the-variants.{K, O}
 use Rattle.memory.specs.Number.{numberAt}
 use Rattle.memory.specs.Layout.{size, rowAt, rowBytes, OnlyRow}
-use Rattle.model.specs.Shipment.{of, when, isFaulty, waits}
+use Rattle.model.specs.Shipment.{of, when, isFaulty, waits, holds}
 use Rattle.model.specs.Calls.{withState, takes, waitsOn, cleared, afterReturn}
 use Rattle.model.specs.Sound.{faultInRange, beforePairing}
 use Rattle.model.specs.declared.Route.{Route}
@@ -123,3 +124,11 @@ listed f from (suc n) = f from ∷ listed f (suc from) n
 -- The class of the state that each byte says, from 0 to 255.
 unfoldable pub classTable : List ℕ
 classTable = listed (λ code. classOf (stateOf code)) 0 256
+
+-- Which moneys an order in a state holds in a Paired shipment, as one number: 1 for K, and 2 more for O.
+abbrev pub holdingOf : State → ℕ
+holdingOf state = when (holds K state) 1 + when (holds O state) 2
+
+-- That of the state that each byte says, from 0 to 52. No byte from 52 on says a state, so that 52 tells of them all.
+unfoldable pub holdingTable : List ℕ
+holdingTable = listed (λ code. holdingOf (stateOf code)) 0 53

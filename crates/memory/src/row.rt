@@ -6,6 +6,7 @@ use model::State;
 use money::Amount;
 use money::Money;
 use text::bytes::is_between;
+use text::bytes::smaller;
 ghost use mathlib.Core.Path.{_≡_};
 ghost use Prim.Native.Nat.{_+_, _*_, _-_, _/_, _%_, _≤_, _<_, _^_};
 ghost use lib.ListN.{length};
@@ -14,7 +15,7 @@ ghost use Rattle.model.specs.Shipment.{of};
 ghost use Rattle.model.specs.declared.Route.{Route};
 ghost use Rattle.memory.specs.Number.{numberAt};
 ghost use Rattle.memory.specs.Layout.{size, rowBytes};
-ghost use Rattle.memory.specs.Rows.{kWaits, oWaits, stateOf, rowOf, waitsCode, codeOf, withCodeAt, routeHas, codeWaits, waitIn, WaitTable, IsWaitTable, RowReturned, classOf, classTable};
+ghost use Rattle.memory.specs.Rows.{kWaits, oWaits, stateOf, rowOf, waitsCode, codeOf, withCodeAt, routeHas, codeWaits, waitIn, WaitTable, IsWaitTable, RowReturned, classOf, classTable, holdingOf, holdingTable};
 
 pub const ROWS: usize = 2_112;
 
@@ -76,6 +77,63 @@ const CLASSES: [u8; 52] = [
 
 // What it asks of a byte that says no state, as all from 52 on.
 const NO_STATE: u8 = 7;
+
+// Which moneys are held by the bytes of state from 0 to 51 (see `holding`), and then by any byte above: none of them says a state.
+const HOLDINGS: [u64; 53] = [
+    3,
+    1,
+    0,
+    0,
+    0,
+    1,
+    0,
+    0,
+    0,
+    1,
+    2,
+    3,
+    0,
+    1,
+    2,
+    3,
+    0,
+    1,
+    2,
+    3,
+    0,
+    1,
+    2,
+    3,
+    0,
+    1,
+    2,
+    3,
+    0,
+    1,
+    2,
+    3,
+    0,
+    1,
+    2,
+    3,
+    0,
+    1,
+    2,
+    3,
+    0,
+    1,
+    2,
+    3,
+    0,
+    1,
+    2,
+    3,
+    0,
+    1,
+    2,
+    3,
+    0,
+];
 
 // The bytes of row k.
 pub fn row_bytes(memory: &[u8], k: usize) -> &[u8]
@@ -250,6 +308,29 @@ pub fn wait_table(route: Route, money: Money) -> [u8; 256]
         table[code] = wait_in(route, money, code as u8);
     }
     table
+}
+
+// Which moneys an order of a Paired shipment holds, by each byte of state. The table is made once for many rows, and lent.
+pub fn holding_table() -> [u64; 53]
+    ensures { λ r. ⌜ r ≡ holdingTable ⌝ }
+{
+    HOLDINGS
+}
+
+// Which moneys an order in the state that a byte says holds.
+fn holding_of(code: u8, table: &[u64]) -> u64
+    requires { ⌜ now table ≡ holdingTable ⌝ }
+    ensures { λ r. ⌜ r ≡ holdingOf (stateOf code) ⌝ }
+{
+    table[smaller(code as usize, 52)]
+}
+
+// Which moneys the order holds, in a Paired shipment: 1 for K, and 2 more for O.
+pub fn holding(row: &[u8], table: &[u64]) -> u64
+    requires { ⌜ (length (now row) ≡ 8) × (now table ≡ holdingTable) ⌝ }
+    ensures { λ r. ⌜ r ≡ holdingOf (rowOf (now (row .entry)) .state) ⌝ }
+{
+    holding_of(row[4], table)
 }
 
 // The byte of two waits.

@@ -55,7 +55,7 @@ pub fn byte_at(s: &[u8], i: usize) -> u8
 }
 
 // The smaller of two numbers.
-fn smaller(a: usize, b: usize) -> usize
+pub fn smaller(a: usize, b: usize) -> usize
     ensures { λ r. ⌜ r ≡ min a b ⌝ }
 {
     if a <= b { a } else { b }
