@@ -3,7 +3,7 @@ ghost use mathlib.Core.Path.{_≡_};
 ghost use mathlib.Core.Bool.{cond, _&&_, _||_};
 ghost use Prim.Native.Nat.{_+_, _-_};
 ghost use lib.Dec.{leb};
-ghost use lib.ListN.{length, take, drop};
+ghost use lib.ListN.{length, take};
 ghost use Rattle.text.specs.Bytes.{same};
 ghost use Rattle.text.specs.Quoted.{bytes};
 ghost use Rattle.text.specs.Number.{number, isNumber, valueOf};
