@@ -95,10 +95,11 @@ pub record Fair (call : Call) (s : Shipment) (outcome : Outcome) : Type 0 where
   pub conserves : (money : Money)
       → held money s + free money s + acceptedBy money call (outcome .answer)
       ≡ held money (outcome .shipment) + free money (outcome .shipment) + leftBy money call (outcome .answer)
+  pub grows : (money : Money) → accepted money s + acceptedBy money call (outcome .answer) ≡ accepted money (outcome .shipment)
 
 -- a question: its "no" is fair, so only its "yes" is left to show
 asked : (call : Call) (s : Shipment) (t : Bool) (number : ℕ) (next : Outcome) → (t ≡ true → Fair call s next) → Fair call s (ask t number s next)
-asked call s t number next = ask-either (Fair call s) t number s next (λ n. record { name = refl; refused = λ e. refl; conserves = λ money. refl })
+asked call s t number next = ask-either (Fair call s) t number s next (λ n. record { name = refl; refused = λ e. refl; conserves = λ money. refl; grows = λ money. omega arith })
 
 -- a transfer, into either money, moves that money's free money only
 module _ (s : Shipment) (b : Balanced s) (n : ℕ) where
@@ -110,12 +111,19 @@ module _ (s : Shipment) (b : Balanced s) (n : ℕ) where
   transfer-conserves O K = omega (arith, b .covered K)
   transfer-conserves O O = omega (arith, b .covered O)
 
+  transfer-grows : (other money : Money) → accepted money s + when (isMoney money other) n ≡ accepted money (withAccepted other n s)
+  transfer-grows K K = refl
+  transfer-grows K O = refl
+  transfer-grows O K = refl
+  transfer-grows O O = refl
+
   -- whatever its title
   transfer-fair : (title : List ℕ) → Fair (Transfer title n) s (leave Done (withAccepted (titleOf title .money) n s))
   transfer-fair title = record {
     name = refl;
     refused = λ e. absurd (false≢true e);
     conserves = transfer-conserves (titleOf title .money);
+    grows = transfer-grows (titleOf title .money);
   }
 
   pub transferred-fair : (title : List ℕ) → Fair (Transfer title n) s (transferred (titleOf title .money) n s)
@@ -132,6 +140,7 @@ module _ (ident : Ident) (s : Shipment) (b : Balanced s) where
         name = refl;
         refused = λ e. absurd (false≢true e);
         conserves = λ money. omega (arith, same-need-once money s t refl (needs money));
+        grows = λ money. omega arith;
       }
 
   gone-ahead-fair : Fair (On ident GoAhead) s (goneAhead s)
@@ -159,6 +168,7 @@ module _ (ident : Ident) (s : Shipment) (b : Balanced s) where
       name = refl;
       refused = λ e. absurd (false≢true e);
       conserves = close-conserves;
+      grows = λ money. omega arith;
     }
 
     -- both needs covered
@@ -177,10 +187,11 @@ module _ (ident : Ident) (s : Shipment) (b : Balanced s) where
         name = refl;
         refused = λ e. absurd (false≢true e);
         conserves = pair-conserves;
+        grows = λ money. omega arith;
       }
 
   short-fair : (k o : ℕ) → Fair (On ident Pair) s (leave (Short k o) s)
-  short-fair k o = record { name = refl; refused = λ e. refl; conserves = λ money. refl }
+  short-fair k o = record { name = refl; refused = λ e. refl; conserves = λ money. refl; grows = λ money. omega arith }
 
   closed-fair : Fair (On ident Close) s (closed s)
   unfolding closed
@@ -219,6 +230,7 @@ module _ (call : Call) (s : Shipment) (b : Balanced s) (is-paired : isPaired (s 
       name = refl;
       refused = λ e. absurd (not-both (isRefusal answer) e taken);
       conserves = rows-conserve;
+      grows = λ money. omega (arith, none-in money);
     }
 
 -- what the order holds less by a deed is what leaves
@@ -384,6 +396,7 @@ module _ (ident : Ident) (s : Shipment) (b : Balanced s) where
     name = refl;
     refused = λ e. absurd (false≢true e);
     conserves = surplus-conserves money;
+    grows = λ other. omega arith;
   }
 
   surplus-returned-fair : (money : Money) → Fair (On ident (Return Zwr money)) s (surplusReturned money s)

@@ -15,7 +15,7 @@ use Rattle.model.specs.Shipment.{sum}
 use Rattle.model.specs.Calls.{Call}
 use Rattle.model.specs.Book.{Book, find, isCalled, step}
 use Rattle.model.specs.Sound.{sound}
-use Rattle.model.specs.Demand.{Event, run, events, bookAt, between, acceptedFor, leftFor, heldIn, freeIn, Covered}
+use Rattle.model.specs.Demand.{Event, run, events, bookAt, between, acceptedFor, leftFor, heldIn, freeIn, acceptedIn, Covered, AcceptedAsAnswered}
 use Rattle.model.proofs.StaysSound.{stays-sound, always-sound}
 use Rattle.model.proofs.StepsConserve.{BookKept, book-kept, step-fair}
 
@@ -40,6 +40,16 @@ run-conserves book h (call ∷ calls) ident money =
       arith,
       run-conserves (step book call .book) (stays-sound .keeps book call h) calls ident money,
       step-fair book (book-kept book h) call .conserves ident money,
+    )
+
+run-grows : (book : Book) → sound book ≡ true → (calls : List Call) (ident : Ident) (money : Money)
+    → acceptedIn money ident book + sum (acceptedFor money ident) (events book calls) ≡ acceptedIn money ident (run book calls)
+run-grows book h [] ident money = omega arith
+run-grows book h (call ∷ calls) ident money =
+    omega (
+      arith,
+      run-grows (step book call .book) (stays-sound .keeps book call h) calls ident money,
+      step-fair book (book-kept book h) call .grows ident money,
     )
 
 -- the part of a list between two points
@@ -70,3 +80,8 @@ pub conserves : (calls : List Call) (p n : ℕ) (ident : Ident) (money : Money)
     ≡ heldIn money ident (bookAt calls (p + n)) + freeIn money ident (bookAt calls (p + n)) + sum (leftFor money ident) (between calls p n)
 conserves calls p n ident money =
     rw (book-later calls p n, between-events calls p n) (run-conserves (bookAt calls p) (always-sound calls p) (take n (drop p calls)) ident money)
+
+pub accepted-as-answered : AcceptedAsAnswered
+accepted-as-answered calls p ident money =
+    let all = run-grows [] (stays-sound .begins) (take p calls) ident money in
+    rw (between-events calls 0 p) (omega (arith, all))

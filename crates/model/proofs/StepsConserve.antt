@@ -18,12 +18,12 @@ use Rattle.epe.specs.declared.name.Name.{Name}
 use Rattle.epe.specs.declared.profile.Profile.{Profile}
 use Rattle.epe.specs.declared.record.Order.{Order}
 use Rattle.epe.proofs.IdentLaws.{same-is-equal}
-use Rattle.model.specs.Shipment.{of, Shipment, when, free, held, holds}
+use Rattle.model.specs.Shipment.{of, Shipment, accepted, when, free, held, holds}
 use Rattle.model.specs.Calls.{Act, Call, Intake, Transfer, On, Answer, Refused, Accepted, isRefusal, Outcome, transferred, acted}
 use Rattle.model.specs.Book.{Book, Step, stay, onFirst, isCalled, sameName, find, isUnknown, entered}
 use Rattle.model.specs.Book.{step}
 use Rattle.model.specs.Sound.{shipmentsSound, sound}
-use Rattle.model.specs.Demand.{isFor, acceptedBy, leftBy, ofShipment, heldIn, freeIn}
+use Rattle.model.specs.Demand.{isFor, acceptedBy, leftBy, ofShipment, heldIn, freeIn, acceptedIn}
 use Rattle.model.proofs.Asking.{not-both, intake-either, transfer-either}
 use Rattle.model.proofs.Known.{found, passed, unknown-first, unknown-rest, unknown-none, append-other, append-new}
 use Rattle.model.proofs.SoundParts.{halves, in-order}
@@ -43,11 +43,12 @@ book-kept book h = each book (search halves)
     each [] h = tt
     each (s ∷ book) h = (balanced s (in-order s (search halves)), (search halves, each book (search halves)))
 
--- What a shipment that was found holds and has free changes just by what an answer says.
+-- What a shipment that was found holds and has free, and what it has accepted, changes just by what an answer says.
 abbrev Moves : Money → Call → Answer → Option Shipment → Option Shipment → Type 0
 Moves money call answer before after =
-    ofShipment (held money) before + ofShipment (free money) before + acceptedBy money call answer
-    ≡ ofShipment (held money) after + ofShipment (free money) after + leftBy money call answer
+    (ofShipment (held money) before + ofShipment (free money) before + acceptedBy money call answer
+    ≡ ofShipment (held money) after + ofShipment (free money) after + leftBy money call answer)
+    × (ofShipment (accepted money) before + acceptedBy money call answer ≡ ofShipment (accepted money) after)
 
 -- What a step leaves of a book, as demand 3 wants it.
 pub record StepFair (book : Book) (call : Call) (next : Step) : Type 0 where
@@ -56,9 +57,20 @@ pub record StepFair (book : Book) (call : Call) (next : Step) : Type 0 where
   pub conserves : (ident : Ident) (money : Money)
       → heldIn money ident book + freeIn money ident book + when (isFor ident call) (acceptedBy money call (next .answer))
       ≡ heldIn money ident (next .book) + freeIn money ident (next .book) + when (isFor ident call) (leftBy money call (next .answer))
+  pub grows : (ident : Ident) (money : Money)
+      → acceptedIn money ident book + when (isFor ident call) (acceptedBy money call (next .answer)) ≡ acceptedIn money ident (next .book)
+
+nothing-more : (t : Bool) (n : ℕ) → n + when t 0 ≡ n
+nothing-more true n = omega arith
+nothing-more false n = omega arith
 
 refused-fair : (book : Book) (call : Call) (number : ℕ) → StepFair book call (stay (Refused number) book)
-refused-fair book call number = record { refused = λ e. refl; others = λ ident e. refl; conserves = λ ident money. refl }
+refused-fair book call number = record {
+  refused = λ e. refl;
+  others = λ ident e. refl;
+  conserves = λ ident money. refl;
+  grows = λ ident money. nothing-more (isFor ident call) (acceptedIn money ident book);
+}
 
 -- a step that leaves the shipments it is not for, and moves the one that it is for by its answer
 module _
@@ -69,21 +81,35 @@ module _
     (next : Step)
     (others : (other : Ident) → sameIdent other named ≡ false → find other (next .book) ≡ find other book)
     (moves : (money : Money) → Moves money call (next .answer) (find named book) (find named (next .book))) where
+  moves-for : (ident : Ident) (money : Money) → sameIdent ident named ≡ true → Moves money call (next .answer) (find ident book) (find ident (next .book))
+  moves-for ident money same =
+      subst (λ i. Moves money call (next .answer) (find i book) (find i (next .book))) (sym (same-is-equal ident named .0 same)) (moves money)
+
   step-conserves : (ident : Ident) (money : Money)
       → heldIn money ident book + freeIn money ident book + when (isFor ident call) (acceptedBy money call (next .answer))
       ≡ heldIn money ident (next .book) + freeIn money ident (next .book) + when (isFor ident call) (leftBy money call (next .answer))
   step-conserves ident money = either-way (sameIdent ident named)
       (λ same.
       let this = is-for ident ∙ same in
-      rw this (subst (λ i. Moves money call (next .answer) (find i book) (find i (next .book))) (sym (same-is-equal ident named .0 same)) (moves money)))
+      rw this (moves-for ident money same .0))
       (λ apart.
       let this = is-for ident ∙ apart in
       rw (this, others ident apart))
 
+  step-grows : (ident : Ident) (money : Money)
+      → acceptedIn money ident book + when (isFor ident call) (acceptedBy money call (next .answer)) ≡ acceptedIn money ident (next .book)
+  step-grows ident money = either-way (sameIdent ident named)
+      (λ same.
+      let this = is-for ident ∙ same in
+      rw this (moves-for ident money same .1))
+      (λ apart.
+      let this = is-for ident ∙ apart in
+      rw (this, others ident apart) (omega arith))
+
 -- the first shipment stays, where a refusal moves nothing, and where the identifier is not its own
 unmoved : (money : Money) (call : Call) (answer : Answer) (number : ℕ) (ident : Ident) (s : Shipment) (book after : Book)
     → isCalled ident s ≡ true → answer ≡ Refused number → Moves money call answer (find ident (s ∷ book)) (find ident (s ∷ after))
-unmoved money call answer number ident s book after called refusal = rw (called, refusal)
+unmoved money call answer number ident s book after called refusal = rw (called, refusal) (refl, omega arith)
 
 moved-behind : (money : Money) (call : Call) (answer : Answer) (ident : Ident) (s : Shipment) (book after : Book)
     → isCalled ident s ≡ false → Moves money call answer (find ident book) (find ident after)
@@ -134,7 +160,7 @@ module _
   -- and the one that is named moves by the answer
   first-moves : (money : Money) (book : Book) → BookKept book
       → Moves money call (onFirst is does book .answer) (find ident book) (find ident (onFirst is does book .book))
-  first-moves money [] kept = refl
+  first-moves money [] kept = (refl, refl)
   first-moves money (s ∷ book) kept =
       cond-either (λ next. Moves money call (next .answer) (find ident (s ∷ book)) (find ident (next .book))) (is s) (taking s book) (passing s book)
       (λ e.
@@ -143,7 +169,7 @@ module _
       subst₂ (Moves money call (does s .answer))
       (sym (found ident s book called))
       (sym (found ident (does s .shipment) book (ap (λ n. sameIdent ident (n .ident)) (f .name) ∙ called)))
-      (f .conserves money))
+      (f .conserves money, f .grows money))
       (λ e. either-way (isCalled ident s)
       (λ called.
       let unknown = ap (λ name. isUnknown name book) (same-is-equal ident (s .name .ident) .0 called) ∙ kept .1 .0 in
@@ -159,6 +185,9 @@ module _
     conserves = step-conserves book call ident is-for (onFirst is does book)
         (λ other apart. first-others other apart book kept)
         (λ money. first-moves money book kept);
+    grows = step-grows book call ident is-for (onFirst is does book)
+        (λ other apart. first-others other apart book kept)
+        (λ money. first-moves money book kept);
   }
 
 module _ (profile : Profile) (name : Name) (orders : List Order) where
@@ -167,17 +196,24 @@ module _ (profile : Profile) (name : Name) (orders : List Order) where
   entered-empty K = refl
   entered-empty O = refl
 
+  entered-unfunded : (money : Money) → accepted money (entered profile name orders) ≡ 0
+  unfolding entered
+  entered-unfunded K = refl
+  entered-unfunded O = refl
+
 -- a shipment whose identifier the book does not know is entered behind the last
 module _ (call : Call) (book : Book) (s : Shipment) where
   append-fair : (n m : ℕ)
       → isUnknown (s .name .ident) book ≡ true
       → ((other : Ident) → isFor other call ≡ sameIdent other (s .name .ident))
       → ((money : Money) → held money s + free money s ≡ 0)
+      → ((money : Money) → accepted money s ≡ 0)
       → StepFair book call (stay (Accepted n m) (book ++ (s ∷ [])))
-  append-fair n m unknown is-for empty = record {
+  append-fair n m unknown is-for empty unfunded = record {
     refused = λ e. absurd (false≢true e);
     others = λ other e. others other (sym (is-for other) ∙ e);
     conserves = step-conserves book call (s .name .ident) is-for (stay (Accepted n m) (book ++ (s ∷ []))) others moves;
+    grows = step-grows book call (s .name .ident) is-for (stay (Accepted n m) (book ++ (s ∷ []))) others moves;
   }
     where
       others : (other : Ident) → sameIdent other (s .name .ident) ≡ false → find other (book ++ (s ∷ [])) ≡ find other book
@@ -188,7 +224,7 @@ module _ (call : Call) (book : Book) (s : Shipment) where
           subst₂ (Moves money call (Accepted n m))
           (sym (unknown-none (s .name .ident) book unknown))
           (sym (append-new (s .name .ident) book s (same-is-equal (s .name .ident) (s .name .ident) .1 refl) unknown))
-          (omega (arith, empty money))
+          (omega (arith, empty money), omega (arith, unfunded money))
 
 -- an intake is refused, or enters a shipment
 taken-in-fair : (profile : Profile) (name file : List ℕ) (book : Book) → StepFair book (Intake profile name file) (step book (Intake profile name file))
@@ -197,7 +233,7 @@ taken-in-fair profile name file book =
     let call = Intake profile name file in
     intake-either (StepFair book call) profile name file book (refused-fair book call)
     (λ unknown. append-fair call book (entered profile (nameOf name) (orders file)) _ _
-    unknown (λ other. refl) (entered-empty profile (nameOf name) (orders file)))
+    unknown (λ other. refl) (entered-empty profile (nameOf name) (orders file)) (entered-unfunded profile (nameOf name) (orders file)))
 
 -- a transfer goes to the shipment of that whole name, so of that identifier
 transferred-in-fair : (title : List ℕ) (amount : ℕ) (book : Book) → BookKept book

@@ -107,6 +107,9 @@ heldIn money ident book = ofShipment (held money) (find ident book)
 abbrev pub freeIn : Money → Ident → Book → ℕ
 freeIn money ident book = ofShipment (free money) (find ident book)
 
+abbrev pub acceptedIn : Money → Ident → Book → ℕ
+acceptedIn money ident book = ofShipment (accepted money) (find ident book)
+
 -- "No free money is ever below zero": what is taken from the transfers accepted never exceeds them.
 abbrev pub Covered : Money → Option Shipment → Type 0
 Covered money none = Unit {0}
@@ -244,3 +247,8 @@ pub record Demand3 (calls : List Call) : Type 0 where
   pub never-below-zero : (p : ℕ) (ident : Ident) (money : Money) → Covered money (find ident (bookAt calls p))
   pub never-twice : (money : Money) (ident : Ident) (j : ℕ) → timesLeft money ident j [] calls ≤ 1
   pub at-each-call : AtEachCall [] calls
+
+-- What a shipment has accepted is what its transfers that were answered as done come to, at every point.
+abbrev pub AcceptedAsAnswered : Type 0
+AcceptedAsAnswered = (calls : List Call) (p : ℕ) (ident : Ident) (money : Money)
+    → acceptedIn money ident (bookAt calls p) ≡ sum (acceptedFor money ident) (between calls 0 p)
