@@ -1,0 +1,85 @@
+//! Safe bindings of libbuntingraft.a, the settlement book for EPE shipments.
+//!
+//! The insurer sends an order file for a shipment and two bank transfers: one
+//! for the orders' amounts, called K, and one for the contractor's fees, called
+//! O. A shipment begins Waiting. When both transfers cover what it needs it is
+//! Paired, and its orders can be posted, paid, marked undelivered or withdrawn;
+//! or it is Closed instead. What is not paid out goes back to the insurer by a
+//! return.
+//!
+//! A [`Book`] lives in plain bytes: its own, or memory that is lent to it.
+//! Every call answers for every input, with a result or with a [`Refusal`], and
+//! a refusal leaves every byte as it was. What each call does, and each
+//! question that it asks, is said in include/buntingraft.h; the archive behind
+//! it is proved to do so.
+//!
+//! # An order file from intake to its returns
+//!
+//! ```
+//! use buntingraft::{Accepted, Amount, Book, Fee, Money, Pairing, Profile, Route};
+//!
+//! let name = b"EPEZZS1-201007-A-0";
+//! let file = "\u{FEFF}1|ZUS|EPE|1.0|ZS1|ABC123|20201007120000|20201007|A|0|3|175.50\r\n\
+//!     2|1|100.00|Nowak|Jan|Łódź|90-001|Łódź|Żwirki|7A||||ZASIŁEK|2020-10||||\r\n\
+//!     2|2|50.00||Łucja|Łódź|90-001|Łódź|Żwirki|7A||||ZASIŁEK|2020-10||||\r\n\
+//!     2|3|25.50|Lis|Ewa|Łódź|90-001|Łódź|Żwirki|7A||||ZASIŁEK|2020-10||||\r\n";
+//! let profile = Profile { today: 20_201_007, fees: [350; 5], fields: 19 };
+//!
+//! let mut book = Book::empty();
+//! let accepted = book.intake(&profile, name, file.as_bytes())?;
+//! assert_eq!(accepted, Accepted { orders: 3, faulty: 1 }); // the second has no surname
+//!
+//! book.transfer(b"EPEZZS1-201007-A-0-K", 17_549)?;
+//! book.transfer(b"EPEZZS1-201007-A-0-O", 1_050)?;
+//! let refusal = book.pair(b"ZS1").unwrap_err();
+//! assert_eq!(refusal.to_string(), "refused with 18: Has it no faulty order, or a go-ahead?");
+//!
+//! book.go_ahead(b"ZS1")?;
+//! assert_eq!(book.pair(b"ZS1")?, Pairing::Short { k: Amount(1), o: Fee(0) });
+//! book.transfer(b"EPEZZS1-201007-A-0-K", 101)?;
+//! assert_eq!(book.pair(b"ZS1")?, Pairing::Paired);
+//!
+//! assert_eq!(book.give_back(b"ZS1", Route::Zwr, Money::K)?.sum, 100); // the surplus
+//! assert_eq!(book.give_back(b"ZS1", Route::Opr, Money::K)?.sum, 5_000); // the faulty order
+//! assert_eq!(book.post(b"ZS1", 1)?, Fee(350));
+//! assert_eq!(book.pay(b"ZS1", 1)?, Amount(10_000));
+//! book.withdraw(b"ZS1", 3)?;
+//! assert_eq!(book.give_back(b"ZS1", Route::Zzr, Money::K)?.sum, 2_550);
+//! # Ok::<(), buntingraft::Refusal>(())
+//! ```
+//!
+//! # A book in memory that is lent to it
+//!
+//! ```
+//! use buntingraft::{Book, BOOK_BYTES};
+//!
+//! let mut memory = [0xAA; BOOK_BYTES + 4];
+//! let book = Book::make_empty_in(&mut memory[..])?;
+//! drop(book);
+//! assert_eq!(memory[BOOK_BYTES..], [0xAA; 4]); // what lies behind a book is never touched
+//!
+//! let mut again = Book::lent(&mut memory[..]); // the bytes are the whole book
+//! assert_eq!(again.close(b"ZS1").unwrap_err().number(), 13);
+//!
+//! memory[0] = 33; // no book has so many shipments
+//! let mut spoilt = Book::lent(&mut memory[..]);
+//! assert_eq!(spoilt.close(b"ZS1").unwrap_err().number(), 10);
+//! # Ok::<(), buntingraft::Refusal>(())
+//! ```
+
+mod answer;
+mod book;
+mod money;
+mod question;
+mod refusal;
+mod sys;
+
+pub use answer::{Accepted, Pairing, Returned};
+pub use book::Book;
+pub use money::{Amount, Fee, Money, Route};
+pub use question::{Call, Question};
+pub use refusal::Refusal;
+pub use sys::Profile;
+
+/// How many bytes a book takes.
+pub const BOOK_BYTES: usize = 18_496;
