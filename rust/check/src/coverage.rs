@@ -1,0 +1,187 @@
+//! What was covered: how often each call gave each answer. The numbers expected
+//! are the questions of the bindings' tables.
+
+use crate::archive::kind;
+use buntingraft::Call;
+use reference::{Answer, Book, Money, Route, State};
+use std::collections::BTreeMap;
+use std::fmt;
+
+/// An answer without its sums.
+#[derive(Clone, Copy, PartialEq, Eq, PartialOrd, Ord)]
+enum Outcome {
+    Done,
+    Short,
+    Refused(u64),
+}
+
+/// Counts of what was compared.
+#[derive(Default)]
+pub struct Coverage {
+    answers: BTreeMap<(Call, Outcome), u64>,
+    returns: BTreeMap<(u64, u64), u64>,
+    faults: [u64; 11],
+    /// Random lists.
+    pub lists: u64,
+    /// Calls that were made on copies alone, to probe a book.
+    pub probes: u64,
+    /// Pieces of memory that were too short or held something else than a book
+    /// made by calls.
+    pub memories: u64,
+}
+
+impl Coverage {
+    /// Counts a call with its answer; of an accepted intake the orders' faults
+    /// too, as they stand in the book after it.
+    pub fn note(&mut self, call: &reference::Call, answer: &Answer, after: Option<&Book>) {
+        self.note_answer(kind(call), answer);
+        match (call, answer) {
+            (reference::Call::Return { route, money, .. }, Answer::Returned { .. }) => {
+                *self.returns.entry((*route, *money)).or_default() += 1;
+            }
+            (reference::Call::Intake { .. }, Answer::Accepted { .. }) => {
+                let newest = after.and_then(|book| book.shipments.last());
+                for row in newest.iter().flat_map(|shipment| &shipment.rows) {
+                    if let State::Faulty { fault, .. } = row.state {
+                        self.faults[usize::from(fault)] += 1;
+                    }
+                }
+            }
+            _ => {}
+        }
+    }
+
+    /// Counts an answer of a kind of call.
+    pub fn note_answer(&mut self, call: Call, answer: &Answer) {
+        let outcome = match answer {
+            Answer::Refused(number) => Outcome::Refused(u64::from(*number)),
+            Answer::Short { .. } => Outcome::Short,
+            _ => Outcome::Done,
+        };
+        *self.answers.entry((call, outcome)).or_default() += 1;
+    }
+
+    /// How many calls were counted, or how many of one kind.
+    fn calls(&self, kind: Option<Call>) -> u64 {
+        let counted = self.answers.iter();
+        counted
+            .filter(|((call, _), _)| kind.is_none_or(|kind| *call == kind))
+            .map(|(_, count)| count)
+            .sum()
+    }
+
+    /// How often each number refused a call other than an intake.
+    fn refused_but_at_intake(&self) -> BTreeMap<u64, u64> {
+        let mut numbers = BTreeMap::new();
+        for ((call, outcome), count) in &self.answers {
+            if let (true, Outcome::Refused(number)) = (*call != Call::Intake, outcome) {
+                *numbers.entry(*number).or_default() += count;
+            }
+        }
+        numbers
+    }
+
+    /// How often a call gave an outcome.
+    fn count(&self, call: Call, outcome: Outcome) -> u64 {
+        *self.answers.get(&(call, outcome)).unwrap_or(&0)
+    }
+
+    /// The outcomes that a call can have.
+    fn outcomes(call: Call) -> Vec<Outcome> {
+        let mut outcomes = vec![Outcome::Done];
+        if call == Call::Pair {
+            outcomes.push(Outcome::Short);
+        }
+        let numbers = call.questions().iter().map(|question| question.number);
+        outcomes.extend(numbers.map(Outcome::Refused));
+        outcomes
+    }
+
+    /// The returns that can be done: each route with each money, but ZPR with
+    /// O.
+    fn ways() -> Vec<(u64, u64)> {
+        let ways = (0..4).flat_map(|route| [(route, 0), (route, 1)]);
+        ways.filter(|way| *way != (2, 1)).collect()
+    }
+
+    /// What can be answered and never was.
+    pub fn missing(&self) -> Vec<String> {
+        let mut missing = Vec::new();
+        for call in Call::ALL {
+            for outcome in Coverage::outcomes(call) {
+                if self.count(call, outcome) == 0 {
+                    missing.push(format!("{call} {outcome}"));
+                }
+            }
+        }
+        for way in Coverage::ways() {
+            if !self.returns.contains_key(&way) {
+                missing.push(format!("return by {}", way_name(way)));
+            }
+        }
+        for fault in (1..=10).filter(|fault| self.faults[*fault] == 0) {
+            missing.push(format!("fault {fault}"));
+        }
+        missing
+    }
+}
+
+/// A route and a money by their names.
+fn way_name((route, money): (u64, u64)) -> String {
+    match (Route::from_number(route), Money::from_number(money)) {
+        (Some(route), Some(money)) => format!("{route:?} {money:?}").to_uppercase(),
+        _ => format!("{route} {money}"),
+    }
+}
+
+impl fmt::Display for Outcome {
+    fn fmt(&self, f: &mut fmt::Formatter<'_>) -> fmt::Result {
+        match self {
+            Outcome::Done => f.write_str("done"),
+            Outcome::Short => f.write_str("short"),
+            Outcome::Refused(number) => write!(f, "{number}"),
+        }
+    }
+}
+
+impl fmt::Display for Coverage {
+    fn fmt(&self, f: &mut fmt::Formatter<'_>) -> fmt::Result {
+        let (calls, files) = (self.calls(None), self.calls(Some(Call::Intake)));
+        writeln!(f, "{calls} calls, {files} of them files")?;
+        writeln!(f, "{} random lists, {} probes", self.lists, self.probes)?;
+        writeln!(f, "{} pieces of memory that no calls made", self.memories)?;
+        for call in Call::ALL {
+            let cell = |outcome: &Outcome| format!("{outcome}: {}", self.count(call, *outcome));
+            let outcomes = Coverage::outcomes(call);
+            write_row(f, &call.to_string(), outcomes.iter().map(cell))?;
+        }
+        let refused = self.refused_but_at_intake();
+        let cells = refused
+            .iter()
+            .map(|(number, count)| format!("{number}: {count}"));
+        write_row(f, "all but intake", cells)?;
+        let done = |way: &(u64, u64)| self.returns.get(way).unwrap_or(&0);
+        let ways = Coverage::ways();
+        let cells = ways
+            .iter()
+            .map(|way| format!("{}: {}", way_name(*way), done(way)));
+        write_row(f, "returns done", cells)?;
+        let faults = self.faults.iter().enumerate().skip(1);
+        let cells = faults.map(|(fault, count)| format!("{fault}: {count}"));
+        write_row(f, "faults", cells)
+    }
+}
+
+/// Writes a row of the table: its title, and its cells in lines of six.
+fn write_row(
+    f: &mut fmt::Formatter<'_>,
+    title: &str,
+    cells: impl Iterator<Item = String>,
+) -> fmt::Result {
+    let cells: Vec<String> = cells.map(|cell| format!("{cell:<14}")).collect();
+    for (line, cells) in cells.chunks(6).enumerate() {
+        let title = if line == 0 { title } else { "" };
+        writeln!(f, "  {title:<18}{}", cells.concat().trim_end())?;
+    }
+    Ok(())
+}

@@ -1,0 +1,23 @@
+//! Cases taken from the papers one by one: every question and every two, every
+//! boundary, every refusal, full books, ZS1 and the field engineer's card.
+
+mod bytes;
+mod card;
+mod dates;
+mod fields;
+mod full;
+mod questions;
+mod refusals;
+
+use crate::coverage::Coverage;
+
+/// Runs every directed case.
+pub fn check(coverage: &mut Coverage) {
+    questions::check(coverage);
+    bytes::check(coverage);
+    dates::check(coverage);
+    fields::check(coverage);
+    refusals::check(coverage);
+    full::check(coverage);
+    card::check(coverage);
+}

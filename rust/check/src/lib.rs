@@ -1,0 +1,51 @@
+//! The checking program: the archive, through its bindings, and the reference
+//! are given the same calls, and everything that a caller can see of the one is
+//! held to the other.
+//!
+//! - [`twin`], [`lent`], [`layout`]: lent memory and the reference's book side by side.
+//! - [`run`], [`ledger`]: a list of calls under way, and demand 3 over it.
+//! - [`directed`], [`memory`], [`lists`]: the cases, memory and lists tried.
+//! - [`coverage`]: what of it all was reached.
+
+pub mod archive;
+pub mod breaks;
+pub mod calls;
+pub mod coverage;
+pub mod directed;
+pub mod draft;
+pub mod generator;
+pub mod layout;
+pub mod ledger;
+pub mod lent;
+pub mod lists;
+pub mod memory;
+pub mod naming;
+pub mod numbers;
+pub mod orders;
+pub mod probe;
+pub mod run;
+pub mod stages;
+pub mod telling;
+pub mod twin;
+
+use coverage::Coverage;
+
+const _: () = assert!(layout::LENGTH == buntingraft::BOOK_BYTES);
+
+/// Runs the directed cases, the memory and so many random lists, prints what
+/// they covered, and says whether the directed cases and the memory alone
+/// reached every answer that there is. A difference ends the program.
+pub fn check(seed: u64, lists: u64) -> bool {
+    let mut coverage = Coverage::default();
+    println!("seed {seed}, {lists} random lists");
+    directed::check(&mut coverage);
+    memory::check(seed, &mut coverage);
+    let missing = coverage.missing();
+    lists::check(seed, 0..lists, &mut coverage);
+    print!("{coverage}");
+    println!("no difference");
+    if !missing.is_empty() {
+        println!("never reached before the lists: {}", missing.join(", "));
+    }
+    missing.is_empty()
+}

@@ -1,0 +1,27 @@
+//! Random lists of calls, each on a book that starts empty, with both books
+//! compared and probed after every call.
+
+use crate::coverage::Coverage;
+use crate::generator::Generator;
+use crate::run::Run;
+use std::ops::Range;
+
+/// Runs these lists of a seed.
+pub fn check(seed: u64, lists: Range<u64>, coverage: &mut Coverage) {
+    for list in lists {
+        check_list(seed, list, coverage);
+    }
+}
+
+/// Runs one list of a seed.
+fn check_list(seed: u64, list: u64, coverage: &mut Coverage) {
+    let mut generator = Generator::of(seed, list);
+    let title = format!("seed {seed}, list {list}");
+    let mut run = Run::begin(title, generator.spare, coverage);
+    for _ in 0..generator.calls {
+        let call = generator.call(run.book());
+        run.call(call.clone());
+        run.probe(&generator.probes(&call, run.book()));
+    }
+    run.coverage.lists += 1;
+}

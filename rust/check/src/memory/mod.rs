@@ -1,0 +1,98 @@
+//! Memory that is no book made by calls: too short, garbage, or a book with
+//! bytes changed by somebody else. Where it is a sound book all the same, the
+//! calls do what the reference does with that book; else they are refused with
+//! 10 (an intake with 900) and leave every byte.
+
+mod corrupt;
+mod fields;
+mod garbage;
+mod lengths;
+
+use crate::calls::{close, give_back_by_number, go_ahead, pair};
+use crate::coverage::Coverage;
+use crate::draft::Draft;
+use crate::naming::{title, MONEYS};
+use crate::probe::deeds_on;
+use crate::run::Run;
+use crate::stages;
+use crate::telling::{end_with, told};
+use crate::twin::Twin;
+use reference::{Book, Call};
+
+/// Tries all such memory; `seed` draws what is random in it.
+pub fn check(seed: u64, coverage: &mut Coverage) {
+    let mut run = Run::begin("a book of all stages".into(), 0, coverage);
+    stages::enter_all(&mut run);
+    let (rich, book) = (run.bytes().to_vec(), run.book().clone());
+    stages::fill(&mut run);
+    let (full, full_book) = (run.bytes().to_vec(), run.book().clone());
+    lengths::check(&rich, &book, coverage);
+    garbage::check(seed, &rich, &book, coverage);
+    corrupt::check(seed, &rich, &book, coverage);
+    corrupt::check_full(&full, &full_book, coverage);
+    fields::check(&rich, &book, coverage);
+}
+
+/// Every call, for the shipment at a place of a book: an intake that would be
+/// accepted and one with a bad profile, a transfer, and each other call; with
+/// its orders, the routes and the moneys in turn.
+fn every_call(book: &Book, place: usize, turn: usize) -> Vec<Call> {
+    let shipment = &book.shipments[place];
+    let identifier = &shipment.name.identifier;
+    let id = String::from_utf8_lossy(identifier);
+    let mut spoilt = Draft::new("XX1", &[100]);
+    spoilt.profile.fields = 33;
+    let mut calls = vec![
+        Draft::new("XX1", &[100]).intake(),
+        spoilt.intake(),
+        Call::Transfer {
+            title: title(&shipment.name, MONEYS[turn % 2]),
+            amount: 1,
+        },
+        go_ahead(&id),
+        pair(&id),
+        close(&id),
+    ];
+    let order = 1 + turn % shipment.rows.len();
+    calls.extend(deeds_on(identifier, order as u64));
+    let (route, money) = (1 + turn as u64 % 3, turn as u64 / 3 % 2);
+    calls.push(give_back_by_number(&id, 0, money));
+    calls.push(give_back_by_number(&id, route, money));
+    calls
+}
+
+/// Every call, for the shipments of a book in turn.
+fn calls_in_turn(book: &Book, turn: usize) -> Vec<Call> {
+    let count = book.shipments.len();
+    every_call(book, turn % count, turn / count)
+}
+
+/// Makes each call on a copy of this memory. `what` says which memory it is,
+/// should a difference show.
+fn try_calls(twin: &Twin, calls: &[Call], what: impl Fn() -> String, desk: &mut Desk) {
+    let coverage = &mut *desk.coverage;
+    let tried = twin.try_each(&mut desk.aside, calls, |call, answer, after| {
+        coverage.note(call, answer, after)
+    });
+    if let Err((call, difference)) = tried {
+        let (what, call) = (what(), told(call));
+        end_with(&format!("{what}\n  {call} -> ?\n{difference}"));
+    }
+    desk.coverage.memories += 1;
+}
+
+/// Where calls are tried: room for a copy of the memory, and the counts.
+struct Desk<'a> {
+    aside: Twin,
+    coverage: &'a mut Coverage,
+}
+
+impl Desk<'_> {
+    /// A desk with room for so many bytes.
+    fn with_room(length: usize, coverage: &mut Coverage) -> Desk<'_> {
+        Desk {
+            aside: Twin::reading(&vec![0; length]),
+            coverage,
+        }
+    }
+}

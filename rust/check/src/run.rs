@@ -1,0 +1,121 @@
+//! A list of calls under way on both books, held to every promise after each of
+//! them. A difference ends the program, with the list's title, the calls so far
+//! and what differs.
+
+use crate::coverage::Coverage;
+use crate::layout::LENGTH;
+use crate::ledger::Ledger;
+use crate::telling::{end_with, told};
+use crate::twin::Twin;
+use reference::{Answer, Book, Call};
+
+/// A list of calls under way.
+pub struct Run<'a> {
+    title: String,
+    made: Vec<(Call, Answer)>,
+    twin: Twin,
+    aside: Twin,
+    held: Book,
+    ledger: Ledger,
+    /// What was covered, in this run and those before it.
+    pub coverage: &'a mut Coverage,
+}
+
+impl<'a> Run<'a> {
+    /// A list that begins with an empty book, in memory with so many bytes to
+    /// spare.
+    pub fn begin(title: String, spare: usize, coverage: &'a mut Coverage) -> Run<'a> {
+        let twin = match Twin::empty(LENGTH + spare) {
+            Ok(twin) => twin,
+            Err(difference) => end_with(&format!("{title}\n{difference}")),
+        };
+        coverage.note_answer(buntingraft::Call::MakeEmpty, &Answer::Done);
+        Run {
+            title,
+            made: Vec::new(),
+            aside: twin.clone(),
+            twin,
+            held: Book::empty(),
+            ledger: Ledger::default(),
+            coverage,
+        }
+    }
+
+    /// The book that the lent bytes hold, which is also the reference's.
+    pub fn book(&self) -> &Book {
+        &self.held
+    }
+
+    /// The bytes of the lent book.
+    pub fn bytes(&self) -> &[u8] {
+        self.twin.lent.bytes()
+    }
+
+    /// Makes the next call of the list, and gives its answer.
+    pub fn call(&mut self, call: Call) -> Answer {
+        let answer = match self.twin.call(&call) {
+            Ok(answer) => answer,
+            Err(difference) => self.differs(&call, &difference),
+        };
+        if let Err(difference) = self.enter(&call, &answer) {
+            self.differs(&call, &format!("both answer {answer:?}, but {difference}"));
+        }
+        self.coverage.note(&call, &answer, Some(&self.held));
+        self.made.push((call, answer));
+        answer
+    }
+
+    /// Reads the lent bytes after a call, and enters it in the ledger.
+    fn enter(&mut self, call: &Call, answer: &Answer) -> Result<(), String> {
+        let after = self.twin.held()?.ok_or("the book is not sound")?;
+        self.ledger.enter(call, answer, &self.held, &after)?;
+        self.held = after;
+        Ok(())
+    }
+
+    /// Makes the next call, whose answer is known from the papers.
+    pub fn expect(&mut self, call: Call, expected: Answer) {
+        let answer = self.call(call.clone());
+        if answer != expected {
+            self.made.pop();
+            self.differs(&call, &format!("both answer {answer:?}, not {expected:?}"));
+        }
+    }
+
+    /// Makes each of these calls on a copy of the book as it stands; counted as
+    /// calls.
+    pub fn attempt(&mut self, calls: &[Call]) {
+        let coverage = &mut self.coverage;
+        let tried = self
+            .twin
+            .try_each(&mut self.aside, calls, |call, answer, after| {
+                coverage.note(call, answer, after)
+            });
+        if let Err((call, difference)) = tried {
+            self.differs(call, &difference);
+        }
+    }
+
+    /// Makes each of these calls on a copy of the book as it stands; counted as
+    /// probes.
+    pub fn probe(&mut self, calls: &[Call]) {
+        let tried = self.twin.try_each(&mut self.aside, calls, |_, _, _| {});
+        if let Err((call, difference)) = tried {
+            self.differs(call, &difference);
+        }
+        self.coverage.probes += calls.len() as u64;
+    }
+
+    /// Ends the program with the difference that a call showed.
+    fn differs(&self, call: &Call, difference: &str) -> ! {
+        let mut so_far = String::new();
+        for (call, answer) in &self.made {
+            so_far += &format!("  {} -> {answer:?}\n", told(call));
+        }
+        let call = told(call);
+        end_with(&format!(
+            "{}\n{so_far}  {call} -> ?\n{difference}",
+            self.title
+        ));
+    }
+}
