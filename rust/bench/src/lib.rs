@@ -1,0 +1,5 @@
+//! What the benchmarks measure the archive against, and what they feed to both.
+
+pub mod calls;
+pub mod files;
+pub mod twin;

@@ -1,0 +1,22 @@
+//! Measures the proved archive against a plain Rust twin (docs/BENCHMARKS.md).
+
+mod books;
+mod on_books;
+mod on_files;
+mod table;
+mod timing;
+
+use timing::Clock;
+
+fn main() {
+    let clock = Clock::new();
+    println!("{clock}\n");
+    println!("{}", on_files::intake(&clock));
+    println!("{}", on_files::parts_of_intake(&clock));
+    println!("{}", on_files::utf8(&clock));
+    for (shipments, orders) in [(1, 2_048), (32, 64)] {
+        let [whole, bare] = on_books::full_book(&clock, shipments, orders);
+        println!("{whole}\n{bare}");
+    }
+    print!("{}", on_books::rows(&clock));
+}
