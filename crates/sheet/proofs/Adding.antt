@@ -1,0 +1,142 @@
+-- A shipment's orders are added up one after the other: what is added, with what is still to add, is the whole.
+-- Assumes nothing.
+use mathlib.Core.Path.{_≡_, refl, sym, ap, _∙_}
+use mathlib.Core.Bool.{Bool, true, false, cond}
+use mathlib.Core.List.{List}
+use Prim.Native.Nat.{ℕ, _+_, _*_, _-_, _/_, _%_, _^_, _≤_, _<_}
+use native.Mathlib.Omega.{arith}
+use Rattle.money.specs.declared.Money.the-variants.{K, O}
+use lib.ListN.{getD}
+use Rattle.model.specs.Shipment.{isPaired, when, sum, holds}
+use Rattle.model.specs.declared.Row.{Row}
+use Rattle.memory.specs.Number.{numberAt}
+use Rattle.memory.specs.Layout.{headBytes, rowBytes}
+use Rattle.memory.specs.Rows.{rowOf, holdingOf}
+use Rattle.memory.specs.Heads.{stageOf, shipmentIn}
+use Rattle.memory.specs.Read.{rowsFrom, ordersAt, shipmentAt}
+use Rattle.sound.proofs.ReadLaws.{rows-many, rows-on, rows-done}
+use Rattle.book.specs.Place.{Sits}
+use Rattle.book.proofs.HeadFields.{orders-are, paired-is}
+use Rattle.sheet.specs.declared.row.Parts.{Parts}
+use Rattle.sheet.specs.Parts.{amountIn, heldIn, holderIn, noParts, withOrder, partsOf, partsOncePaired, Small}
+
+at-most : (t : Bool) (n : ℕ) → when t n ≤ n
+at-most true n = omega arith
+at-most false n = omega arith
+
+-- one order more, as code adds it
+k-held : (k o : Bool) (n : ℕ) → n * ((when k 1 + when o 2) % 2) ≡ when k n
+k-held true true n = omega arith
+k-held true false n = omega arith
+k-held false true n = omega arith
+k-held false false n = omega arith
+
+o-held : (k o : Bool) → (when k 1 + when o 2) / 2 ≡ when o 1
+o-held true true = refl
+o-held true false = refl
+o-held false true = refl
+o-held false false = refl
+
+module _ (parts : Parts) (row : Row) {amount holding : ℕ} (amount-is : amount ≡ amountIn row) (holding-is : holding ≡ holdingOf (row .state)) where
+  held-in : amount * (holding % 2) ≡ heldIn row
+  held-in = (λ t. amount-is t * (holding-is t % 2)) ∙ k-held (holds K (row .state)) (holds O (row .state)) (amountIn row)
+
+  holder-in : holding / 2 ≡ holderIn row
+  holder-in = ap (λ n. n / 2) holding-is ∙ o-held (holds K (row .state)) (holds O (row .state))
+
+  pub held-most : amount * (holding % 2) ≤ amount
+  held-most = omega (arith, held-in, amount-is, at-most (holds K (row .state)) (amountIn row))
+
+  pub order-added : record {
+    orders = parts .orders + 1;
+    amounts = parts .amounts + amount;
+    held = parts .held + amount * (holding % 2);
+    holders = parts .holders + holding / 2;
+  } ≡ withOrder parts row
+  order-added = λ t. record {
+    orders = parts .orders + 1;
+    amounts = parts .amounts + amount-is t;
+    held = parts .held + held-in t;
+    holders = parts .holders + holder-in t;
+  }
+
+-- The rows from the i-th on are left of the n from the k-th on.
+pub record Going (m : List ℕ) (k n : ℕ) (parts : Parts) (i left : ℕ) : Type 0 where
+  pub place : i + left ≡ k + n
+  pub orders : parts .orders + left ≡ n
+  pub amounts : parts .amounts + sum amountIn (rowsFrom m i left) ≡ sum amountIn (rowsFrom m k n)
+  pub held : parts .held + sum heldIn (rowsFrom m i left) ≡ sum heldIn (rowsFrom m k n)
+  pub holders : parts .holders + sum holderIn (rowsFrom m i left) ≡ sum holderIn (rowsFrom m k n)
+  pub amounts-low : parts .amounts + left * 2 ^ 32 ≤ n * 2 ^ 32
+  pub held-low : parts .held ≤ parts .amounts
+  pub holders-low : parts .holders ≤ parts .orders
+
+module _ {m : List ℕ} {k n : ℕ} where
+  pub begun : Going m k n noParts k n
+  begun = record {
+    place = refl;
+    orders = omega arith;
+    amounts = omega arith;
+    held = omega arith;
+    holders = omega arith;
+    amounts-low = omega arith;
+    held-low = omega arith;
+    holders-low = omega arith;
+  }
+
+  module _ {parts : Parts} {i left : ℕ} (going : Going m k n parts i left) where
+    pub still-small : n ≤ 2_048 → Small parts (2 ^ 60)
+    still-small few = record {
+      orders = omega (arith, going .orders);
+      amounts = omega (arith, going .amounts-low);
+      held = omega (arith, going .amounts-low, going .held-low);
+      holders = omega (arith, going .orders, going .holders-low);
+    }
+
+    pub one-more : {row : List ℕ} {next : Parts} → 0 < left → row ≡ rowBytes m i → next ≡ withOrder parts (rowOf row)
+        → next .amounts < parts .amounts + 2 ^ 32 → Going m k n next (i + 1) (left - 1)
+    one-more {row} {next} more row-is next-is most =
+        let here = rowOf row in
+        let low : amountIn here < 2 ^ 32 = omega (arith, ap (λ (p : Parts). p .amounts) next-is, most) in
+        let is : (f : Row → ℕ) → f here ≡ f (rowOf (rowBytes m i)) = λ f. ap (λ r. f (rowOf r)) row-is in
+        rw next-is
+        (record {
+          place = omega (arith, going .place);
+          orders = omega (arith, going .orders);
+          amounts = omega (arith, going .amounts, ap (sum amountIn) (rows-on m i left more), is amountIn);
+          held = omega (arith, going .held, ap (sum heldIn) (rows-on m i left more), is heldIn);
+          holders = omega (arith, going .holders, ap (sum holderIn) (rows-on m i left more), is holderIn);
+          amounts-low = omega (arith, going .amounts-low, low);
+          held-low = omega (arith, going .held-low, at-most (holds K (here .state)) (amountIn here));
+          holders-low = omega (arith, going .holders-low, at-most (holds O (here .state)) 1);
+        })
+
+    pub all-added : left ≤ 0 → parts ≡ partsOf (rowsFrom m k n)
+    all-added done =
+        let orders-are : parts .orders ≡ n = omega (arith, going .orders) in
+        let amounts-are : parts .amounts ≡ sum amountIn (rowsFrom m k n) = omega (arith, going .amounts, ap (sum amountIn) (rows-done m i left done)) in
+        let held-are : parts .held ≡ sum heldIn (rowsFrom m k n) = omega (arith, going .held, ap (sum heldIn) (rows-done m i left done)) in
+        let holders-are : parts .holders ≡ sum holderIn (rowsFrom m k n) = omega (arith, going .holders, ap (sum holderIn) (rows-done m i left done)) in
+        let counted = orders-are ∙ sym (rows-many m k n) in
+        λ t. record { orders = counted t; amounts = amounts-are t; held = held-are t; holders = holders-are t }
+
+-- the shipment at a place
+module _ (m : List ℕ) (i k : ℕ) {head : List ℕ} (is-head : head ≡ headBytes m i) {paired : Bool}
+    (is-paired : paired ≡ isPaired (stageOf (getD head 28 0))) where
+  paired-test : isPaired (shipmentAt m i k .stage) ≡ paired
+  paired-test = sym (is-paired ∙ paired-is m i k is-head)
+
+  pub none-unpaired : paired ≡ false → noParts ≡ partsOncePaired (shipmentAt m i k)
+  unfolding partsOncePaired
+  none-unpaired unpaired = ap (λ t. cond t noParts noParts) (sym (paired-test ∙ unpaired)) ∙ rw (paired-test ∙ unpaired)
+
+  module _ (sits : Sits m i k) {n : ℕ} (is-count : n ≡ numberAt 2 head 30) where
+    count-is : n ≡ ordersAt m i
+    count-is = is-count ∙ orders-are m i k is-head
+
+    pub rows-there : k + n ≤ 2_048
+    rows-there = omega (arith, count-is, sits .room)
+
+    pub parts-paired : {parts : Parts} → paired ≡ true → parts ≡ partsOf (rowsFrom m k n) → parts ≡ partsOncePaired (shipmentAt m i k)
+    unfolding partsOncePaired shipmentIn
+    parts-paired together told = told ∙ rw (paired-test ∙ together) (ap (λ count. partsOf (rowsFrom m k count)) count-is)

@@ -1,0 +1,109 @@
+-- The sheet balances: in a Paired shipment each order's worth is held or has left, and in any other nothing is held and no order's money has left.
+-- Assumes nothing.
+use mathlib.Core.Path.{_≡_, refl}
+use mathlib.Core.Bool.{Bool, true, false, _||_, false≢true}
+use mathlib.Core.List.{List, [], _∷_}
+use Prim.Native.Nat.{ℕ, _+_, _*_}
+use native.Mathlib.Omega.{arith}
+use lib.ListN.{length}
+use Rattle.money.specs.declared.Money.{Money}
+use Rattle.money.specs.declared.Money.the-variants.{K, O}
+use Rattle.model.specs.Shipment.{Shipment, accepted, isPaired, when, sum, worth, need, free, holds, held}
+use Rattle.model.specs.Sound.{beforePairing, rowSound, rowsSound, shipmentSound}
+use Rattle.model.specs.declared.Row.{Row}
+use Rattle.model.specs.declared.State.{State}
+use Rattle.model.specs.declared.State.the-variants.{Open, Posted, Paid, Faulty, Undelivered, Withdrawn}
+use Rattle.model.proofs.SoundParts.{halves, in-order}
+use Rattle.sheet.specs.Sheet.{isOut, waitsNoMore, left, Balances}
+
+-- an order's worth is held, is out, or waits no more
+shared : (money : Money) (state : State) (n : ℕ)
+    → when (holds money state) n + when (isOut money state) n + when (waitsNoMore money state) n ≡ n
+shared K Open n = omega arith
+shared K Posted n = omega arith
+shared K Paid n = omega arith
+shared K (Faulty fault true o) n = omega arith
+shared K (Faulty fault false o) n = omega arith
+shared K (Undelivered true) n = omega arith
+shared K (Undelivered false) n = omega arith
+shared K (Withdrawn true o) n = omega arith
+shared K (Withdrawn false o) n = omega arith
+shared O Open n = omega arith
+shared O Posted n = omega arith
+shared O Paid n = omega arith
+shared O (Faulty fault k true) n = omega arith
+shared O (Faulty fault k false) n = omega arith
+shared O (Undelivered k) n = omega arith
+shared O (Withdrawn k true) n = omega arith
+shared O (Withdrawn k false) n = omega arith
+
+-- the worth of all orders is the need
+all-needed : (money : Money) (s : Shipment) → sum (λ (row : Row). worth money (s .fee) row) (s .rows) ≡ need money s
+unfolding need
+all-needed K s = refl
+all-needed O s = go (s .rows)
+  where
+    go : (rows : List Row) → sum (λ (row : Row). s .fee) rows ≡ length rows * s .fee
+    go [] = omega arith
+    go (row ∷ rows) = let rest = go rows in omega arith
+
+-- before pairing no order's money is out
+none-out : (money : Money) (state : State) (n : ℕ) → beforePairing state ≡ true → when (isOut money state) n ≡ 0
+none-out K Open n h = refl
+none-out K Posted n h = absurd (false≢true h)
+none-out K Paid n h = absurd (false≢true h)
+none-out K (Faulty fault k o) n h = refl
+none-out K (Undelivered k) n h = absurd (false≢true h)
+none-out K (Withdrawn k o) n h = absurd (false≢true h)
+none-out O Open n h = refl
+none-out O Posted n h = absurd (false≢true h)
+none-out O Paid n h = absurd (false≢true h)
+none-out O (Faulty fault k o) n h = refl
+none-out O (Undelivered k) n h = absurd (false≢true h)
+none-out O (Withdrawn k o) n h = absurd (false≢true h)
+
+module _ (money : Money) (s : Shipment) where
+  abbrev those : (State → Bool) → Row → ℕ
+  those test row = when (test (row .state)) (worth money (s .fee) row)
+
+  shared-all : (rows : List Row)
+      → sum (those (holds money)) rows + sum (those (isOut money)) rows + sum (those (waitsNoMore money)) rows
+      ≡ sum (λ (row : Row). worth money (s .fee) row) rows
+  shared-all [] = refl
+  shared-all (row ∷ rows) =
+      let here = shared money (row .state) (worth money (s .fee) row) in
+      let rest = shared-all rows in
+      omega arith
+
+  -- an order of a shipment that is not Paired
+  row-before : (row : Row) → isPaired (s .stage) ≡ false → rowSound (s .stage) row ≡ true → beforePairing (row .state) ≡ true
+  unfolding rowSound
+  row-before row unpaired h =
+      let either : (isPaired (s .stage) || beforePairing (row .state)) ≡ true = search halves in
+      rw unpaired at either
+
+  none-out-of-all : isPaired (s .stage) ≡ false → (rows : List Row) → rowsSound (s .stage) rows ≡ true → sum (those (isOut money)) rows ≡ 0
+  unfolding rowsSound
+  none-out-of-all unpaired [] h = refl
+  none-out-of-all unpaired (row ∷ rows) h =
+      omega (
+        arith,
+        none-out money (row .state) (worth money (s .fee) row) (row-before row unpaired (search halves)),
+        none-out-of-all unpaired rows (search halves),
+      )
+
+  pub balances-when : (paired : Bool) → isPaired (s .stage) ≡ paired → shipmentSound s ≡ true
+      → accepted money s ≡ held money s + free money s + left money s
+  unfolding held free left
+  balances-when true paired h =
+      let covered = in-order s h .moneys money .covered in
+      let whole = shared-all (s .rows) in
+      let needed = all-needed money s in
+      rw paired (omega (arith, rw paired at covered))
+  balances-when false unpaired h =
+      let covered = in-order s h .moneys money .covered in
+      let none = none-out-of-all unpaired (s .rows) (in-order s h .rows-sound) in
+      rw unpaired (omega (arith, rw unpaired at covered))
+
+pub balances : Balances
+balances money s = balances-when money s (isPaired (s .stage)) refl

@@ -1,0 +1,108 @@
+-- What was accepted of a money is divided: by the parts of its orders a shipment's need and what it holds are known, and what has left is the rest.
+-- Assumes nothing.
+use mathlib.Core.Path.{_≡_, refl, ap, _∙_}
+use mathlib.Core.Bool.{Bool, true, false, cond}
+use mathlib.Core.List.{List, [], _∷_}
+use Prim.Native.Nat.{ℕ, _+_, _*_, _-_, _^_, _≤_, _<_}
+use native.Mathlib.Omega.{arith}
+use native.Mathlib.Nat.{mul-comm}
+use lib.ListN.{length}
+use Rattle.money.specs.declared.Money.{Money}
+use Rattle.money.specs.declared.Money.the-variants.{K, O}
+use Rattle.model.specs.Shipment.{Shipment, accepted, returned, isPaired, when, sum, need, needOncePaired, free, holds, held}
+use Rattle.model.specs.Sound.{shipmentSound}
+use Rattle.model.specs.declared.Row.{Row}
+use Rattle.model.proofs.SoundParts.{in-order}
+use Rattle.memory.specs.Number.{numberAt}
+use Rattle.memory.specs.Layout.{headBytes}
+use Rattle.memory.specs.Heads.{acceptedAt, returnedAt}
+use Rattle.memory.specs.Read.{shipmentAt}
+use Rattle.book.specs.Place.{Sits}
+use Rattle.book.proofs.HeadFields.{accepted-is, returned-is}
+use Rattle.sheet.specs.declared.row.Parts.{Parts}
+use Rattle.sheet.specs.declared.row.Division.{Division}
+use Rattle.sheet.specs.Sheet.{left}
+use Rattle.sheet.specs.Parts.{holderIn, noParts, partsOf, partsOncePaired, divided, divisionOf}
+use Rattle.sheet.proofs.Balance.{balances}
+
+-- the fee as often as orders hold it
+fees-held-in : (fee : ℕ) (rows : List Row) → fee * sum holderIn rows ≡ sum (λ (row : Row). when (holds O (row .state)) fee) rows
+fees-held-in fee [] = omega arith
+fees-held-in fee (row ∷ rows) = by (holds O (row .state)) (sum holderIn rows) (fees-held-in fee rows)
+  where
+    by : (t : Bool) (n : ℕ) {total : ℕ} → fee * n ≡ total → fee * (when t 1 + n) ≡ when t fee + total
+    by true n rest = omega (arith, rest)
+    by false n rest = let same : 0 + n ≡ n = omega arith in rw same (omega (arith, rest))
+
+-- the parts of a shipment are its need and what it holds
+module _ (s : Shipment) {parts : Parts} (are : parts ≡ partsOncePaired s) where
+  parts-when : (paired : Bool) → isPaired (s .stage) ≡ paired → (parts .amounts ≡ needOncePaired K s) × (parts .held ≡ held K s)
+      × (s .fee * parts .orders ≡ needOncePaired O s) × (s .fee * parts .holders ≡ held O s)
+  unfolding partsOncePaired need held
+  parts-when true paired =
+      let those : parts ≡ partsOf (s .rows) = are ∙ ap (λ t. cond t (partsOf (s .rows)) noParts) paired in
+      rw (paired, those) (refl, refl, mul-comm (s .fee) (length (s .rows)), fees-held-in (s .fee) (s .rows))
+  parts-when false unpaired =
+      let none : parts ≡ noParts = are ∙ ap (λ t. cond t (partsOf (s .rows)) noParts) unpaired in
+      rw (unpaired, none) (refl, refl, omega arith, omega arith)
+
+  pub amounts-needed : parts .amounts ≡ needOncePaired K s
+  amounts-needed = parts-when (isPaired (s .stage)) refl .0
+
+  pub amounts-held : parts .held ≡ held K s
+  amounts-held = parts-when (isPaired (s .stage)) refl .1
+
+  module _ {fee : ℕ} (fee-known : fee ≡ s .fee) where
+    pub fees-needed : fee * parts .orders ≡ needOncePaired O s
+    fees-needed = ap (λ f. f * parts .orders) fee-known ∙ parts-when (isPaired (s .stage)) refl .2
+
+    pub fees-held : fee * parts .holders ≡ held O s
+    fees-held = ap (λ f. f * parts .holders) fee-known ∙ parts-when (isPaired (s .stage)) refl .3
+
+-- and what was accepted is divided by them
+module _ (money : Money) (s : Shipment) (sound : shipmentSound s ≡ true) where
+  pub divisible : (returned money s + needOncePaired money s ≤ accepted money s) × (held money s ≤ returned money s + needOncePaired money s)
+  unfolding free
+  divisible =
+      let covered = in-order s sound .moneys money .covered in
+      (covered, omega (arith, covered, balances money s sound))
+
+  divided-is : divided (accepted money s) (returned money s) (needOncePaired money s) (held money s) ≡ divisionOf money s
+  unfolding free
+  divided-is =
+      let rest : accepted money s - held money s - (accepted money s - needOncePaired money s - returned money s) ≡ left money s
+      = omega (arith, balances money s sound, divisible) in
+      λ t. record {
+        accepted = accepted money s;
+        held = held money s;
+        free = accepted money s - needOncePaired money s - returned money s;
+        left = rest t;
+      }
+
+  -- no sum is above what was accepted
+  pub need-fits : needOncePaired money s < 2 ^ 64
+  need-fits = omega (arith, in-order s sound .moneys money .covered, in-order s sound .moneys money .accepted-fits)
+
+  pub held-fits : held money s < 2 ^ 64
+  held-fits = omega (arith, divisible .1, in-order s sound .moneys money .covered, in-order s sound .moneys money .accepted-fits)
+
+-- as code reads a head
+module _ (m : List ℕ) (i k : ℕ) (sits : Sits m i k) {head : List ℕ} (is-head : head ≡ headBytes m i) (money : Money) {a r : ℕ}
+    (a-is : a ≡ numberAt 8 head (acceptedAt money)) (r-is : r ≡ numberAt 8 head (returnedAt money)) {n h : ℕ}
+    (n-is : n ≡ needOncePaired money (shipmentAt m i k)) (h-is : h ≡ held money (shipmentAt m i k)) where
+  abbrev s : Shipment
+  s = shipmentAt m i k
+
+  accepted-known : a ≡ accepted money s
+  accepted-known = a-is ∙ accepted-is m i k is-head money
+
+  returned-known : r ≡ returned money s
+  returned-known = r-is ∙ returned-is m i k is-head money
+
+  pub can-divide : (r + n ≤ a) × (h ≤ r + n)
+  can-divide =
+      let ways = divisible money s (sits .sound) in
+      (omega (arith, ways .0, accepted-known, returned-known, n-is), omega (arith, ways .1, returned-known, n-is, h-is))
+
+  pub division-is : {d : Division} → d ≡ divided a r n h → d ≡ divisionOf money s
+  division-is told = told ∙ (λ t. divided (accepted-known t) (returned-known t) (n-is t) (h-is t)) ∙ divided-is money s (sits .sound)

@@ -1,0 +1,10 @@
+pub mod Balance
+pub mod Answered
+pub mod Adding
+pub mod Dividing
+pub mod Standing
+pub mod Totalling
+pub mod Planning
+pub mod Filled
+pub mod Walks
+pub mod Examples

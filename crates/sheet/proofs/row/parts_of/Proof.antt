@@ -1,0 +1,63 @@
+-- `sheet::row::parts_of` adds order after order: what is added and what is left give the whole.
+use Rattle.sheet.proofs.Adding.{Going, begun, still-small, one-more, all-added}
+use borrow.Author.Needs.{needs}
+use Rattle.sheet.proofs.row.parts_of.Statement.{statement}
+use Rattle.sheet.proofs.row.parts_of.Tie as tie
+
+abbrev Inv-loop : tie.InvT-loop
+Inv-loop memory k n table parts₀ i₀ left₀ parts i left = Going memory k n parts i left
+
+abbrev μ-loop : tie.MeasureT-loop
+μ-loop memory k n table parts₀ i₀ left₀ parts i left = left
+
+holding-table-requires : tie.Need-holding-table-requires Inv-loop μ-loop
+holding-table-requires c κs = search needs
+
+loop-holds : tie.Need-loop-holds Inv-loop μ-loop
+loop-holds c = begun
+
+row-bytes-requires : tie.Need-row-bytes-requires Inv-loop μ-loop
+row-bytes-requires c κs = search needs
+
+slice-aggregate-with-order : tie.Need-slice-aggregate-with-order Inv-loop μ-loop
+slice-aggregate-with-order c = search needs
+
+with-order-requires : tie.Need-with-order-requires Inv-loop μ-loop
+with-order-requires c κs =
+    let turn = c .before .before .before in
+    (c .before .row-bytes .ensures .1, turn .before .holding-table .ensures, still-small (turn .loop .inv) (search needs))
+
+add-i : tie.Need-add-i Inv-loop μ-loop
+add-i c = search needs
+
+sub-left : tie.Need-sub-left Inv-loop μ-loop
+sub-left c = search needs
+
+loop-less : tie.Need-loop-less Inv-loop μ-loop
+loop-less c = search needs
+
+loop-again : tie.Need-loop-again Inv-loop μ-loop
+loop-again c =
+    let row = c .before .before in
+    let next = c .with-order .ensures in
+    one-more (row .before .before .loop .inv) (search needs) (row .row-bytes .ensures .0) (next .0) (next .1)
+
+returns : tie.Need-returns Inv-loop μ-loop
+returns c = all-added (c .before .loop .inv) (search needs)
+
+pub parts-of-spec : {M : Type 1} → statement M
+parts-of-spec =
+    tie.close
+    (tie.spec
+    Inv-loop
+    μ-loop
+    holding-table-requires
+    loop-holds
+    row-bytes-requires
+    slice-aggregate-with-order
+    with-order-requires
+    add-i
+    sub-left
+    loop-less
+    loop-again
+    returns)

@@ -1,0 +1,67 @@
+-- What code adds up of a shipment's orders, and how it divides what was accepted. Only the contracts below `sheet` need these.
+use mathlib.Core.Bool.{cond}
+use mathlib.Core.List.{List}
+use Prim.Native.Nat.{ℕ, _+_, _-_, _≤_}
+use lib.ListN.{length}
+use Rattle.money.specs.declared.Money.{Money}
+use Rattle.money.specs.declared.Money.the-variants.{K, O}
+use Rattle.model.specs.Shipment.{Shipment, accepted, isPaired, when, sum, free, holds, held}
+use Rattle.model.specs.declared.Row.{Row}
+use Rattle.sheet.specs.declared.Amounts.{Amounts}
+use Rattle.sheet.specs.declared.Fees.{Fees}
+use Rattle.sheet.specs.declared.row.Parts.{Parts}
+use Rattle.sheet.specs.declared.row.Division.{Division}
+use Rattle.sheet.specs.Sheet.{left, amount, fee}
+
+abbrev pub amountIn : Row → ℕ
+amountIn row = row .amount .0
+
+abbrev pub heldIn : Row → ℕ
+heldIn row = when (holds K (row .state)) (row .amount .0)
+
+abbrev pub holderIn : Row → ℕ
+holderIn row = when (holds O (row .state)) 1
+
+-- The orders of a Paired shipment: how many, all amounts, the amounts held, and how many hold a fee.
+abbrev pub noParts : Parts
+noParts = record { orders = 0; amounts = 0; held = 0; holders = 0 }
+
+abbrev pub withOrder : Parts → Row → Parts
+withOrder parts row = record {
+  orders = parts .orders + 1;
+  amounts = parts .amounts + amountIn row;
+  held = parts .held + heldIn row;
+  holders = parts .holders + holderIn row;
+}
+
+abbrev pub partsOf : List Row → Parts
+partsOf rows = record { orders = length rows; amounts = sum amountIn rows; held = sum heldIn rows; holders = sum holderIn rows }
+
+-- In other stages nothing is needed or held.
+unfoldable pub partsOncePaired : Shipment → Parts
+partsOncePaired s = cond (isPaired (s .stage)) (partsOf (s .rows)) noParts
+
+-- Parts that one order more cannot carry past 64 bits.
+pub record Small (parts : Parts) (n : ℕ) : Type 0 where
+  pub orders : parts .orders ≤ n
+  pub amounts : parts .amounts ≤ n
+  pub held : parts .held ≤ n
+  pub holders : parts .holders ≤ n
+
+-- What was accepted is divided: what is held, what is free, and the rest has left.
+abbrev pub divided : ℕ → ℕ → ℕ → ℕ → Division
+divided accepted returned need held = record {
+  accepted = accepted;
+  held = held;
+  free = accepted - need - returned;
+  left = accepted - held - (accepted - need - returned);
+}
+
+abbrev pub divisionOf : Money → Shipment → Division
+divisionOf money s = record { accepted = accepted money s; held = held money s; free = free money s; left = left money s }
+
+abbrev pub amountsFrom : Division → Amounts
+amountsFrom d = record { accepted = amount (d .accepted); held = amount (d .held); free = amount (d .free); left = amount (d .left) }
+
+abbrev pub feesFrom : Division → Fees
+feesFrom d = record { accepted = fee (d .accepted); held = fee (d .held); free = fee (d .free); left = fee (d .left) }

@@ -1,0 +1,142 @@
+-- The balance sheet: a row to a shipment, and totals. Document 01, "The balance sheet".
+use mathlib.Core.Path.{_≡_}
+use mathlib.Core.Bool.{Bool, true, false, not, _&&_, _||_}
+use mathlib.Core.List.{List, [], _∷_, _++_, map}
+use mathlib.Core.Option.{Option, some, none}
+use Prim.Native.Nat.{ℕ, _+_}
+use lib.Dec.{leb}
+use lib.ListN.{length, drop}
+use Rattle.money.specs.declared.Amount.{Amount}
+use Rattle.money.specs.declared.Fee.{Fee}
+use Rattle.money.specs.declared.Money.{Money}
+use Rattle.money.specs.declared.Money.the-variants.{K, O}
+use Rattle.epe.specs.declared.ident.Ident.{Ident}
+use Rattle.model.specs.Shipment.{Shipment, accepted, returned, isPaired, when, sum, isPosted, isFaulty, isUndelivered, isWithdrawn}
+use Rattle.model.specs.Shipment.{waits, worth, free, held}
+use Rattle.model.specs.Calls.{Call}
+use Rattle.model.specs.Book.{Book, find}
+use Rattle.model.specs.Sound.{shipmentSound}
+use Rattle.model.specs.Demand.{bookAt, between, leftFor, ofShipment}
+use Rattle.model.specs.declared.Row.{Row}
+use Rattle.model.specs.declared.State.{State}
+use Rattle.model.specs.declared.State.the-variants.{Open, Posted, Paid, Faulty, Undelivered, Withdrawn}
+use Rattle.sheet.specs.declared.Amounts.{Amounts}
+use Rattle.sheet.specs.declared.Fees.{Fees}
+use Rattle.sheet.specs.declared.Sheeting.{Sheeting}
+use Rattle.sheet.specs.declared.Sheeting.the-variants.{Filled, Refused}
+use Rattle.sheet.specs.declared.SheetRow.{SheetRow}
+use Rattle.sheet.specs.declared.Totals.{Totals}
+
+abbrev pub isPaid : State → Bool
+isPaid Open = false
+isPaid Posted = false
+isPaid Paid = true
+isPaid (Faulty fault k o) = false
+isPaid (Undelivered k) = false
+isPaid (Withdrawn k o) = false
+
+-- "K left is the amounts of Paid orders, plus .. . O left is F for each Posted, Paid or Undelivered order, plus .."
+abbrev pub isOut : Money → State → Bool
+isOut K state = isPaid state
+isOut O state = isPosted state || (isPaid state || isUndelivered state)
+
+-- ".. those of Faulty, Undelivered and Withdrawn orders .. whose K no longer waits .. F for each Faulty or Withdrawn one .. whose O no longer waits .."
+abbrev pub canWait : Money → State → Bool
+canWait K state = isFaulty state || (isUndelivered state || isWithdrawn state)
+canWait O state = isFaulty state || isWithdrawn state
+
+abbrev pub waitsNoMore : Money → State → Bool
+waitsNoMore money state = canWait money state && not (waits money state)
+
+-- What the orders that pass a test are worth.
+abbrev pub worthWhere : (State → Bool) → Money → Shipment → ℕ
+worthWhere test money s = sum (λ (row : Row). when (test (row .state)) (worth money (s .fee) row)) (s .rows)
+
+-- ".. in a Paired shipment .., plus K surplus returned .., plus O surplus returned."
+unfoldable pub left : Money → Shipment → ℕ
+left money s = worthWhere (isOut money) money s + when (isPaired (s .stage)) (worthWhere (waitsNoMore money) money s) + returned money s
+
+-- "The sheet fills a lent table, one row per shipment: identifier; accepted, held, free, left, for K and for O."
+abbrev pub amount : ℕ → Amount
+amount grosze = record { 0 = grosze }
+
+abbrev pub fee : ℕ → Fee
+fee grosze = record { 0 = grosze }
+
+abbrev pub amountsOf : Shipment → Amounts
+amountsOf s = record { accepted = amount (accepted K s); held = amount (held K s); free = amount (free K s); left = amount (left K s) }
+
+abbrev pub feesOf : Shipment → Fees
+feesOf s = record { accepted = fee (accepted O s); held = fee (held O s); free = fee (free O s); left = fee (left O s) }
+
+unfoldable pub rowFor : Shipment → SheetRow
+rowFor s = record { ident = s .name .ident; amounts = amountsOf s; fees = feesOf s }
+
+-- "It adds each row's eight sums to a lent record of totals."
+abbrev pub plusAmounts : Amounts → Amounts → Amounts
+plusAmounts a b = record {
+  accepted = amount (a .accepted .0 + b .accepted .0);
+  held = amount (a .held .0 + b .held .0);
+  free = amount (a .free .0 + b .free .0);
+  left = amount (a .left .0 + b .left .0);
+}
+
+abbrev pub plusFees : Fees → Fees → Fees
+plusFees a b = record {
+  accepted = fee (a .accepted .0 + b .accepted .0);
+  held = fee (a .held .0 + b .held .0);
+  free = fee (a .free .0 + b .free .0);
+  left = fee (a .left .0 + b .left .0);
+}
+
+abbrev pub plus : Totals → SheetRow → Totals
+plus totals row = record { amounts = plusAmounts (totals .amounts) (row .amounts); fees = plusFees (totals .fees) (row .fees) }
+
+unfoldable pub plusAll : Totals → List SheetRow → Totals
+plusAll totals [] = totals
+plusAll totals (row ∷ rows) = plusAll (plus totals row) rows
+
+-- "After adding, no total above 999,999,999,999,999?"
+abbrev pub totalCap : ℕ
+totalCap = 999_999_999_999_999
+
+abbrev pub fourWithin : ℕ → ℕ → ℕ → ℕ → Bool
+fourWithin a b c d = leb a totalCap && (leb b totalCap && (leb c totalCap && leb d totalCap))
+
+unfoldable pub withinCap : Totals → Bool
+withinCap totals =
+    fourWithin (totals .amounts .accepted .0) (totals .amounts .held .0) (totals .amounts .free .0) (totals .amounts .left .0)
+    && fourWithin (totals .fees .accepted .0) (totals .fees .held .0) (totals .fees .free .0) (totals .fees .left .0)
+
+-- What a sheet answers, and what it leaves of the table and the totals.
+pub record Sheet : Type 0 where
+  pub answer : Sheeting
+  pub table : List SheetRow
+  pub totals : Totals
+
+-- A question: "no" answers its number and leaves the table and the totals as they were.
+unfoldable pub ask : Bool → ℕ → List SheetRow → Totals → Sheet → Sheet
+ask true number table totals next = next
+ask false number table totals next = record { answer = Refused number; table = table; totals = totals }
+
+-- "After 10: table has a row for each shipment? 25. After adding, no total above 999,999,999,999,999? 26. Rows past the last are untouched."
+unfoldable pub sheetOf : Option Book → List SheetRow → Totals → Sheet
+sheetOf none table totals = record { answer = Refused 10; table = table; totals = totals }
+sheetOf (some book) table totals =
+    ask (leb (length book) (length table)) 25 table totals
+    (ask (withinCap (plusAll totals (map rowFor book))) 26 table totals
+    (record {
+      answer = Filled (length book);
+      table = map rowFor book ++ drop (length book) table;
+      totals = plusAll totals (map rowFor book);
+    }))
+
+-- The sheet that a clerk reads always balances: of a sound shipment, accepted is held, free and left together, in either money.
+abbrev pub Balances : Type 0
+Balances = (money : Money) (s : Shipment) → shipmentSound s ≡ true → accepted money s ≡ held money s + free money s + left money s
+
+-- What the sheet says has left of a shipment is what demand 3 counts as left: all that the answers given so far say went out, at every point of every
+-- list of calls from an empty book.
+abbrev pub LeftAsAnswered : Type 0
+LeftAsAnswered = (calls : List Call) (p : ℕ) (ident : Ident) (money : Money)
+    → ofShipment (left money) (find ident (bookAt calls p)) ≡ sum (leftFor money ident) (between calls 0 p)
