@@ -27,7 +27,7 @@
  * Nothing is kept when a call returns.
  *
  * That is all a caller owes. Every call answers, whatever the bytes and numbers are. The library allocates nothing, has no
- * state of its own, and takes less than 24 KiB of stack, so calls on different books may run at the same time.
+ * state of its own, and takes less than 32 KiB of stack, so calls on different books may run at the same time.
  *
  *
  * What a call answers
@@ -256,6 +256,49 @@ struct buntingraft_reply buntingraft_withdraw(uint8_t *book, size_t book_length,
  */
 struct buntingraft_reply buntingraft_return(uint8_t *book, size_t book_length, const uint8_t *id, size_t id_length,
                                             uint64_t route, uint64_t money);
+
+/*
+ * A row of the balance sheet: where a shipment's money is, in K and in O. Accepted is always held, free and left together. A
+ * row is 96 bytes, of which those between the identifier and its length mean nothing.
+ */
+struct buntingraft_row {
+    uint8_t id[17];      /* the shipment's identifier, zeros behind it */
+    uint64_t id_len;     /* the identifier's length: 3 to 17 */
+    uint64_t k_accepted; /* all transfers accepted */
+    uint64_t k_held;     /* the amounts of Open and Posted orders and those that wait; 0 where the shipment is not Paired */
+    uint64_t k_free;     /* transfers accepted, less the need where the shipment is Paired, less what ZWR returned */
+    uint64_t k_left;     /* the amounts paid out, and what all routes returned */
+    uint64_t o_accepted; /* all transfers accepted */
+    uint64_t o_held;     /* the fees of Open orders and those that wait; 0 where the shipment is not Paired */
+    uint64_t o_free;     /* transfers accepted, less the need where the shipment is Paired, less what ZWR returned */
+    uint64_t o_left;     /* the fees earned, and what all routes returned */
+};
+
+/* The same eight sums, added up over the rows of one sheet or of several. */
+struct buntingraft_totals {
+    uint64_t k_accepted, k_held, k_free, k_left;
+    uint64_t o_accepted, o_held, o_free, o_left;
+};
+
+/*
+ * Fills the balance sheet: a row of the table for each shipment, in order of intake, and adds each row's eight sums to the
+ * totals. Rows behind the last shipment's are not touched. The totals go on from what they hold, so that several books can be
+ * added up; set them to zero first for those of one book. The book is only read, so sheets of the same one may be filled at
+ * the same time, each into a table and totals of its own.
+ *
+ * `table` is `rows` rows and `totals` one record, both lent as the book is (the pointers not null, even where `rows` is 0) and
+ * aligned as their types ask. A table of 32 rows is enough for any book.
+ *
+ * Done: the number of shipments, and so of rows filled; 0.
+ *
+ *    10  Is the book's memory long enough, and a sound book?
+ *    25  Has the table a row for each shipment?
+ *    26  Is no total above 999,999,999,999,999 after adding?
+ *
+ * A refusal leaves the table and the totals as they were, too.
+ */
+struct buntingraft_reply buntingraft_sheet(const uint8_t *book, size_t book_length, struct buntingraft_row *table, size_t rows,
+                                           struct buntingraft_totals *totals);
 
 #ifdef __cplusplus
 }

@@ -27,6 +27,21 @@ static void expect(const char *call, uint64_t status, uint64_t first, uint64_t s
     replies_wrong += !right;
 }
 
+/* Prints the balance sheet of a book with one shipment, and holds it to the table: all has left, nothing is held or free. */
+static struct buntingraft_reply sheet(const uint8_t *book, size_t book_length) {
+    struct buntingraft_row row = {.id_len = 0};
+    struct buntingraft_totals totals = {.k_accepted = 0};
+    struct buntingraft_reply reply = buntingraft_sheet(book, book_length, &row, 1, &totals);
+    printf("%-24s K accepted %" PRIu64 ", held %" PRIu64 ", free %" PRIu64 ", left %" PRIu64 "\n", "", row.k_accepted, row.k_held,
+           row.k_free, row.k_left);
+    printf("%-24s O accepted %" PRIu64 ", held %" PRIu64 ", free %" PRIu64 ", left %" PRIu64 "\n", "", row.o_accepted, row.o_held,
+           row.o_free, row.o_left);
+    int right = row.k_accepted == 17650 && row.k_held == 0 && row.k_free == 0 && row.k_left == 17650 && row.o_accepted == 1050 &&
+                row.o_held == 0 && row.o_free == 0 && row.o_left == 1050 && totals.k_left == 17650 && totals.o_left == 1050;
+    replies_wrong += !right;
+    return reply;
+}
+
 /* Runs the shipment in a book that is made empty first. */
 static void run(uint8_t *book, size_t book_length, const uint8_t *file, size_t file_length) {
     const struct buntingraft_profile profile = {.today = 20201007, .fees = {350, 350, 350, 350, 350}, .fields = 19};
@@ -57,6 +72,7 @@ static void run(uint8_t *book, size_t book_length, const uint8_t *file, size_t f
     expect("7. withdraw 3", done, 0, 0, buntingraft_withdraw(BOOK, ID, 3));
     expect("7. ZZR K", done, 2550, 1, buntingraft_return(BOOK, ID, BUNTINGRAFT_ZZR, BUNTINGRAFT_K));
     expect("7. ZZR O", done, 350, 1, buntingraft_return(BOOK, ID, BUNTINGRAFT_ZZR, BUNTINGRAFT_O));
+    expect("8. sheet", done, 1, 0, sheet(BOOK));
 }
 
 int main(void) {

@@ -20,7 +20,7 @@ pub struct Told {
 }
 
 // Done, and what the answer says.
-fn done(first: u64, second: u64) -> Told
+pub fn done(first: u64, second: u64) -> Told
     ensures { λ r. ⌜ r ≡ doneWith first second ⌝ }
 {
     Told {

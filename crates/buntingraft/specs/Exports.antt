@@ -1,5 +1,5 @@
 -- What the exports ensure: the reply is the call's answer in three numbers (`toldOf`), and the memory is as the call's own promise has it (`Does`).
--- `Plays` says both of a call; making an empty book and a return have a record here.
+-- `Plays` says both of a call; making an empty book, a return and a sheet have a record here.
 use mathlib.Core.Path.{_≡_}
 use mathlib.Core.Bool.{Bool, true, false, cond, _&&_}
 use mathlib.Core.List.{List}
@@ -15,8 +15,13 @@ use Rattle.model.specs.declared.Route.the-variants.{Zwr, Opr, Zpr, Zzr}
 use Rattle.memory.specs.Read.{readBook}
 use Rattle.book.specs.Does.{MakesEmpty}
 use Rattle.book.specs.NoReturn.{noReturn}
-use Rattle.audit.specs.Replay.{toldOf, refusedWith, Plays}
+use Rattle.audit.specs.Replay.{toldOf, doneWith, refusedWith, Plays}
 use Rattle.audit.specs.declared.told.Told.{Told}
+use Rattle.sheet.specs.Sheet.{sheetOf}
+use Rattle.sheet.specs.declared.Sheeting.{Sheeting}
+use Rattle.sheet.specs.declared.Sheeting.the-variants.{Filled, Refused}
+use Rattle.sheet.specs.declared.SheetRow.{SheetRow}
+use Rattle.sheet.specs.declared.Totals.{Totals}
 use Rattle.buntingraft.specs.declared.Terms.{Terms}
 
 -- A profile as C has it is the profile of its numbers.
@@ -43,3 +48,13 @@ moneyOf n = cond (eqb n 0) K O
 pub record Returns (before : List ℕ) (ident : Ident) (route money : ℕ) (told : Told) (after : List ℕ) : Type 0 where
   pub plays : areKnown route money ≡ true → Plays before (On ident (Return (routeOf route) (moneyOf money))) told after
   pub refused : areKnown route money ≡ false → (told ≡ refusedWith (noReturn ident (readBook before))) × (after ≡ before)
+
+-- A sheet answers the number of its rows, or a refusal. The table and the totals are as it leaves them.
+unfoldable pub toldSheet : Sheeting → Told
+toldSheet (Filled rows) = doneWith rows 0
+toldSheet (Refused number) = refusedWith number
+
+pub record Sheets (book : List ℕ) (table : List SheetRow) (totals : Totals) (told : Told) (table′ : List SheetRow) (totals′ : Totals) : Type 0 where
+  pub is-told : told ≡ toldSheet (sheetOf (readBook book) table totals .answer)
+  pub rows : table′ ≡ sheetOf (readBook book) table totals .table
+  pub sums : totals′ ≡ sheetOf (readBook book) table totals .totals

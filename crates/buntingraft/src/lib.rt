@@ -1,5 +1,6 @@
 // The C ABI of the library: its exports, and nothing else. include/buntingraft.h says what each is for.
 use audit::told::Told;
+use audit::told::done;
 use audit::told::refused;
 use audit::told::tell_acceptance;
 use audit::told::tell_pairing;
@@ -13,13 +14,16 @@ use epe::profile::Profile;
 use memory::SIZE;
 use model::Route;
 use money::Money;
+use sheet::SheetRow;
+use sheet::Sheeting;
+use sheet::Totals;
 ghost use mathlib.Core.Path.{_≡_};
 ghost use Rattle.epe.specs.Ident.{identOf};
 ghost use Rattle.model.specs.Calls.{GoAhead, Pair, Close, OnOrder, Intake, Transfer, On};
 ghost use Rattle.model.specs.declared.Deed.the-variants.{Post, Pay, MarkUndelivered, Withdraw};
 ghost use Rattle.memory.specs.Layout.{size};
 ghost use Rattle.audit.specs.Replay.{Plays};
-ghost use Rattle.buntingraft.specs.Exports.{profileOf, routeOf, moneyOf, areKnown, Makes, Returns};
+ghost use Rattle.buntingraft.specs.Exports.{profileOf, routeOf, moneyOf, areKnown, toldSheet, Makes, Returns, Sheets};
 
 // The profile of an intake, as C has it.
 #[repr(C)]
@@ -168,4 +172,27 @@ pub extern "C" fn buntingraft_return(book: &mut [u8], id: &[u8], route: u64, mon
         money,
         book::return_money(book, ident, route_of(route), money),
     )
+}
+
+// What a sheet says, in three numbers.
+fn tell_sheet(sheeting: Sheeting) -> Told
+    ensures { λ r. ⌜ r ≡ toldSheet sheeting ⌝ }
+{
+    match sheeting {
+        Sheeting::Filled(rows) => done(rows, 0),
+        Sheeting::Refused(number) => refused(number),
+    }
+}
+
+// Fills the balance sheet, and adds it to the totals.
+#[no_mangle]
+pub extern "C" fn buntingraft_sheet(
+    book: &[u8],
+    table: &mut [SheetRow],
+    totals: &mut Totals,
+) -> Told
+    ensures { λ r. ⌜ Sheets (now (book .entry)) (now (table .entry)) (now (totals .entry)) r (now (table .exit)) (now (totals .exit)) ⌝ }
+{
+    let sheeting = sheet::sheet(book, table, totals);
+    tell_sheet(sheeting)
 }

@@ -13,6 +13,7 @@ use text::bytes::rest;
 use text::number::is_between;
 
 // An identifier: 17 bytes with its length, zeros behind it.
+#[repr(C)]
 pub struct Ident {
     pub bytes: [u8; 17],
     pub len: usize,

@@ -18,9 +18,11 @@ pub enum Money {
 }
 
 // Grosze of amounts, K.
+#[repr(C)]
 pub struct Amount(pub u64);
 
 // Grosze of fees, O.
+#[repr(C)]
 pub struct Fee(pub u64);
 
 // An amount, or a refusal.
