@@ -5,7 +5,7 @@
 //! O. A shipment begins Waiting. When both transfers cover what it needs it is
 //! Paired, and its orders can be posted, paid, marked undelivered or withdrawn;
 //! or it is Closed instead. What is not paid out goes back to the insurer by a
-//! return.
+//! return. Where all of it is, the balance sheet says ([`Book::sheet`]).
 //!
 //! A [`Book`] lives in plain bytes: its own, or memory that is lent to it.
 //! Every call answers for every input, with a result or with a [`Refusal`], and
@@ -13,7 +13,7 @@
 //! question that it asks, is said in include/buntingraft.h; the archive behind
 //! it is proved to do so.
 //!
-//! # An order file from intake to its returns
+//! # An order file from intake to its sheet
 //!
 //! ```
 //! use buntingraft::{Accepted, Amount, Book, Fee, Money, Pairing, Profile, Route};
@@ -41,10 +41,20 @@
 //!
 //! assert_eq!(book.give_back(b"ZS1", Route::Zwr, Money::K)?.sum, 100); // the surplus
 //! assert_eq!(book.give_back(b"ZS1", Route::Opr, Money::K)?.sum, 5_000); // the faulty order
+//! assert_eq!(book.give_back(b"ZS1", Route::Opr, Money::O)?.sum, 350);
 //! assert_eq!(book.post(b"ZS1", 1)?, Fee(350));
 //! assert_eq!(book.pay(b"ZS1", 1)?, Amount(10_000));
 //! book.withdraw(b"ZS1", 3)?;
 //! assert_eq!(book.give_back(b"ZS1", Route::Zzr, Money::K)?.sum, 2_550);
+//! assert_eq!(book.give_back(b"ZS1", Route::Zzr, Money::O)?.sum, 350);
+//!
+//! assert_eq!(
+//!     book.sheet()?.to_string(),
+//!     "\
+//! shipment  K accepted  K held  K free  K left  O accepted  O held  O free  O left
+//! ZS1           176.50    0.00    0.00  176.50       10.50    0.00    0.00   10.50
+//! in all        176.50    0.00    0.00  176.50       10.50    0.00    0.00   10.50"
+//! );
 //! # Ok::<(), buntingraft::Refusal>(())
 //! ```
 //!
@@ -72,6 +82,7 @@ mod book;
 mod money;
 mod question;
 mod refusal;
+mod sheet;
 mod sys;
 
 pub use answer::{Accepted, Pairing, Returned};
@@ -79,7 +90,12 @@ pub use book::Book;
 pub use money::{Amount, Fee, Money, Route};
 pub use question::{Call, Question};
 pub use refusal::Refusal;
-pub use sys::Profile;
+pub use sheet::Sheet;
+pub use sys::{Profile, SheetRow, Totals};
 
 /// How many bytes a book takes.
 pub const BOOK_BYTES: usize = 18_496;
+
+/// How many shipments a book has at most, so that a table of as many rows is
+/// enough for the sheet of any book.
+pub const MOST_SHIPMENTS: usize = 32;

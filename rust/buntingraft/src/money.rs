@@ -7,7 +7,8 @@ use std::fmt;
 /// ```
 /// assert_eq!(buntingraft::Amount(17_550).to_string(), "175.50");
 /// ```
-#[derive(Clone, Copy, Debug, PartialEq, Eq, PartialOrd, Ord, Hash)]
+#[repr(transparent)]
+#[derive(Clone, Copy, Debug, Default, PartialEq, Eq, PartialOrd, Ord, Hash)]
 pub struct Amount(pub u64);
 
 /// Grosze of O, the contractor's fees. Shown in zloty.
@@ -15,7 +16,8 @@ pub struct Amount(pub u64);
 /// ```
 /// assert_eq!(buntingraft::Fee(1_050).to_string(), "10.50");
 /// ```
-#[derive(Clone, Copy, Debug, PartialEq, Eq, PartialOrd, Ord, Hash)]
+#[repr(transparent)]
+#[derive(Clone, Copy, Debug, Default, PartialEq, Eq, PartialOrd, Ord, Hash)]
 pub struct Fee(pub u64);
 
 /// Writes grosze as zloty, a point and two digits.

@@ -28,6 +28,8 @@ pub enum Call {
     Withdraw,
     /// Money goes back to the insurer.
     Return,
+    /// The balance sheet is filled.
+    Sheet,
 }
 
 /// A question that a call asks, and its number.
@@ -41,7 +43,7 @@ pub struct Question {
 
 impl Call {
     /// Every call.
-    pub const ALL: [Call; 11] = [
+    pub const ALL: [Call; 12] = [
         Call::MakeEmpty,
         Call::Intake,
         Call::Transfer,
@@ -53,6 +55,7 @@ impl Call {
         Call::MarkUndelivered,
         Call::Withdraw,
         Call::Return,
+        Call::Sheet,
     ];
 
     /// The questions that this call asks. A return asks 24 of ZWR, and 19 and
@@ -67,6 +70,7 @@ impl Call {
             Call::Close => CLOSE,
             Call::Post | Call::Pay | Call::MarkUndelivered | Call::Withdraw => ON_ORDER,
             Call::Return => RETURN,
+            Call::Sheet => SHEET,
         }
     }
 }
@@ -85,6 +89,7 @@ impl fmt::Display for Call {
             Call::MarkUndelivered => "mark undelivered",
             Call::Withdraw => "withdraw",
             Call::Return => "return",
+            Call::Sheet => "sheet",
         })
     }
 }
@@ -217,6 +222,12 @@ const RETURN: &[Question] = &[
     PAIRED,
     ask(22, "Is it not ZPR with O?"),
     ask(23, "Is there anything above zero to return?"),
+];
+
+const SHEET: &[Question] = &[
+    SOUND,
+    ask(25, "Has the table a row for each shipment?"),
+    ask(26, "Is no total above 999,999,999,999,999 after adding?"),
 ];
 
 #[cfg(test)]

@@ -1,5 +1,7 @@
-//! The archive as include/buntingraft.h declares it: the records that it takes
-//! and gives by value, and its functions.
+//! The archive as include/buntingraft.h declares it: the records that it takes,
+//! gives and fills, and its functions.
+
+use crate::money::{Amount, Fee};
 
 /// A reply: its status, and two numbers whose meaning depends on the call.
 #[repr(C)]
@@ -31,6 +33,62 @@ pub struct Profile {
     pub fees: [u64; 5],
     /// R, the number of fields in a record line: 19 to 32.
     pub fields: u64,
+}
+
+/// A row of the balance sheet: where a shipment's money is. In either money
+/// accepted is held, free and left together.
+#[repr(C)]
+#[derive(Clone, Copy, Debug, Default, PartialEq, Eq)]
+pub struct SheetRow {
+    /// The shipment's identifier, zeros behind it;
+    /// [`identifier`](SheetRow::identifier) is the identifier alone.
+    pub id: [u8; 17],
+    /// The identifier's length: 3 to 17.
+    pub id_len: u64,
+    /// All transfers of K accepted.
+    pub k_accepted: Amount,
+    /// The amounts of Open and Posted orders and those that wait; 0 where the
+    /// shipment is not Paired.
+    pub k_held: Amount,
+    /// K accepted, less the need where the shipment is Paired, less what ZWR
+    /// returned.
+    pub k_free: Amount,
+    /// The amounts paid out, and what all routes returned of K.
+    pub k_left: Amount,
+    /// All transfers of O accepted.
+    pub o_accepted: Fee,
+    /// The fees of Open orders and those that wait; 0 where the shipment is not
+    /// Paired.
+    pub o_held: Fee,
+    /// O accepted, less the need where the shipment is Paired, less what ZWR
+    /// returned.
+    pub o_free: Fee,
+    /// The fees earned, and what all routes returned of O.
+    pub o_left: Fee,
+}
+
+/// The eight sums of a [`SheetRow`], added up over the rows of one sheet or of
+/// several. Any numbers can be passed; those that come to more than
+/// 999,999,999,999,999 are refused with 26.
+#[repr(C)]
+#[derive(Clone, Copy, Debug, Default, PartialEq, Eq)]
+pub struct Totals {
+    /// K accepted.
+    pub k_accepted: Amount,
+    /// K held.
+    pub k_held: Amount,
+    /// K free.
+    pub k_free: Amount,
+    /// K left.
+    pub k_left: Amount,
+    /// O accepted.
+    pub o_accepted: Fee,
+    /// O held.
+    pub o_held: Fee,
+    /// O free.
+    pub o_free: Fee,
+    /// O left.
+    pub o_left: Fee,
 }
 
 /// A call for the shipment with an identifier: book, its length, identifier,
@@ -127,4 +185,46 @@ unsafe extern "C" {
         route: u64,
         money: u64,
     ) -> Reply;
+
+    pub(crate) fn buntingraft_sheet(
+        book: *const u8,
+        book_length: usize,
+        table: *mut SheetRow,
+        rows: usize,
+        totals: *mut Totals,
+    ) -> Reply;
+}
+
+#[cfg(test)]
+mod tests {
+    use super::*;
+    use std::mem::offset_of;
+
+    #[test]
+    fn a_row_is_laid_out_as_the_header_has_it() {
+        assert_eq!((size_of::<SheetRow>(), align_of::<SheetRow>()), (96, 8));
+        assert_eq!(offset_of!(SheetRow, id), 0);
+        assert_eq!(offset_of!(SheetRow, id_len), 24);
+        assert_eq!(offset_of!(SheetRow, k_accepted), 32);
+        assert_eq!(offset_of!(SheetRow, k_held), 40);
+        assert_eq!(offset_of!(SheetRow, k_free), 48);
+        assert_eq!(offset_of!(SheetRow, k_left), 56);
+        assert_eq!(offset_of!(SheetRow, o_accepted), 64);
+        assert_eq!(offset_of!(SheetRow, o_held), 72);
+        assert_eq!(offset_of!(SheetRow, o_free), 80);
+        assert_eq!(offset_of!(SheetRow, o_left), 88);
+    }
+
+    #[test]
+    fn totals_are_laid_out_as_the_header_has_them() {
+        assert_eq!((size_of::<Totals>(), align_of::<Totals>()), (64, 8));
+        assert_eq!(offset_of!(Totals, k_accepted), 0);
+        assert_eq!(offset_of!(Totals, k_held), 8);
+        assert_eq!(offset_of!(Totals, k_free), 16);
+        assert_eq!(offset_of!(Totals, k_left), 24);
+        assert_eq!(offset_of!(Totals, o_accepted), 32);
+        assert_eq!(offset_of!(Totals, o_held), 40);
+        assert_eq!(offset_of!(Totals, o_free), 48);
+        assert_eq!(offset_of!(Totals, o_left), 56);
+    }
 }

@@ -1,7 +1,7 @@
 //! A call made on the archive, through the bindings, and told as the reference
 //! tells it.
 
-use buntingraft::{Book, Pairing, Profile, Refusal};
+use buntingraft::{Book, Pairing, Profile, Refusal, SheetRow, Totals};
 use reference::{Answer, Call};
 
 /// Which of the archive's calls this is.
@@ -23,6 +23,12 @@ pub fn kind(call: &Call) -> buntingraft::Call {
 /// Makes an empty book in these bytes.
 pub fn make_empty(bytes: &mut [u8]) -> Result<Answer, Refusal> {
     Book::make_empty_in(bytes).map(|_| Answer::Done)
+}
+
+/// Takes the sheet of the book in these bytes, and gives the number of rows
+/// filled.
+pub fn sheet(bytes: &[u8], table: &mut [SheetRow], totals: &mut Totals) -> Result<usize, Refusal> {
+    Book::lent(bytes).sheet_into(table, totals)
 }
 
 /// The archive's answer to a call on the book in these bytes.

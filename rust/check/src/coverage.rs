@@ -2,6 +2,7 @@
 //! are the questions of the bindings' tables.
 
 use crate::archive::kind;
+use crate::sheet::Taken;
 use buntingraft::Call;
 use reference::{Answer, Book, Money, Route, State};
 use std::collections::BTreeMap;
@@ -59,6 +60,15 @@ impl Coverage {
             _ => Outcome::Done,
         };
         *self.answers.entry((call, outcome)).or_default() += 1;
+    }
+
+    /// Counts a sheet.
+    pub fn note_sheet(&mut self, taken: &Taken) {
+        let answer = match taken {
+            Ok(_) => Answer::Done,
+            Err(number) => Answer::Refused(*number),
+        };
+        self.note_answer(Call::Sheet, &answer);
     }
 
     /// How many calls were counted, or how many of one kind.
@@ -146,8 +156,9 @@ impl fmt::Display for Outcome {
 
 impl fmt::Display for Coverage {
     fn fmt(&self, f: &mut fmt::Formatter<'_>) -> fmt::Result {
-        let (calls, files) = (self.calls(None), self.calls(Some(Call::Intake)));
-        writeln!(f, "{calls} calls, {files} of them files")?;
+        let calls = self.calls(None);
+        let [files, sheets] = [Call::Intake, Call::Sheet].map(|kind| self.calls(Some(kind)));
+        writeln!(f, "{calls} calls, {files} of them files, {sheets} sheets")?;
         writeln!(f, "{} random lists, {} probes", self.lists, self.probes)?;
         writeln!(f, "{} pieces of memory that no calls made", self.memories)?;
         for call in Call::ALL {

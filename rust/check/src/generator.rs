@@ -3,10 +3,12 @@
 //! late transfers); the others are anything at all.
 
 use crate::draft::Draft;
+use crate::lendings;
 use crate::naming::{position_named, title, MONEYS};
 use crate::numbers::Numbers;
 use crate::orders::{good_draft, spoil_byte, spoilt_intake};
 use crate::probe;
+use crate::sheet::Lending;
 use reference::{Book, Call, Money, Shipment, Stage, State, MOST_SUM};
 
 /// What the shipments of an ordinary list are called: near one another, and of
@@ -23,6 +25,7 @@ const IDENTIFIERS: [&str; 6] = [
 /// Makes the calls of one list.
 pub struct Generator {
     numbers: Numbers,
+    sheet_numbers: Numbers,
     identifiers: Vec<String>,
     most_orders: usize,
     /// How many calls the list has.
@@ -49,6 +52,7 @@ impl Generator {
         let spare = numbers.pick(&[0, 0, 1, 7, 4_096]);
         Generator {
             numbers,
+            sheet_numbers: Numbers::of(!seed, list),
             identifiers,
             most_orders,
             calls,
@@ -93,6 +97,11 @@ impl Generator {
             calls.extend(probe::calls_for(shipment, &mut self.numbers));
         }
         calls
+    }
+
+    /// What is lent for a sheet of this book.
+    pub fn lending(&mut self, book: &Book) -> Lending {
+        lendings::some(book, &mut self.sheet_numbers)
     }
 
     /// A good file, most often with an identifier that is not in the book yet.

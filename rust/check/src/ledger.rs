@@ -1,8 +1,10 @@
 //! Demand 3: transfers accepted are what the orders hold, the free money, and
 //! all that left; summed from the archive's answers alone, for every shipment
-//! and either money, after every call.
+//! and either money, after every call. The sheet's rows say the same.
 
 use crate::naming::{position_named, MONEYS};
+use crate::sheet::sums_of;
+use buntingraft::SheetRow;
 use reference::{Answer, Book, Call, Money, Shipment, Stage};
 use std::collections::BTreeSet;
 
@@ -22,14 +24,16 @@ pub struct Ledger {
 }
 
 impl Ledger {
-    /// Enters a call with its answer and the books that the lent bytes held
-    /// before and after it; or says what of demand 3 it breaks.
+    /// Enters a call with its answer, the books that the lent bytes held before
+    /// and after it, and the sheet's rows after it; or says what of demand 3 it
+    /// breaks.
     pub fn enter(
         &mut self,
         call: &Call,
         answer: &Answer,
         before: &Book,
         after: &Book,
+        rows: &[SheetRow],
     ) -> Result<(), String> {
         self.sums.resize(after.shipments.len(), Default::default());
         let named = position_named(call, after);
@@ -37,7 +41,7 @@ impl Ledger {
         if let Some(named) = named {
             self.count(named, call, answer, before, after)?;
         }
-        self.balance(after)
+        self.balance(after, rows)
     }
 
     /// Adds what the answer says to the sums of the shipment that the call
@@ -97,17 +101,21 @@ impl Ledger {
         ))
     }
 
-    /// Is every shipment's free money at least zero, and is accepted = held +
-    /// free + left in either money?
-    fn balance(&self, book: &Book) -> Result<(), String> {
-        for (shipment, sums) in book.shipments.iter().zip(&self.sums) {
-            for (money, sums) in MONEYS.into_iter().zip(sums) {
+    /// Is every shipment's free money at least zero, is accepted what is held,
+    /// free and left together in either money, and has the sheet these numbers?
+    fn balance(&self, book: &Book, rows: &[SheetRow]) -> Result<(), String> {
+        for ((shipment, sums), row) in book.shipments.iter().zip(&self.sums).zip(rows) {
+            let on_the_sheet = sums_of(&row.sums()).map(i128::from);
+            for (place, money) in MONEYS.into_iter().enumerate() {
                 let (held, free) = (i128::from(shipment.held(money)), free(shipment, money));
-                let (accepted, left) = (i128::from(sums.accepted), i128::from(sums.left));
-                if free < 0 || accepted != held + free + left {
+                let [accepted, left] = [sums[place].accepted, sums[place].left].map(i128::from);
+                let balanced = free >= 0 && accepted == held + free + left;
+                let row = &on_the_sheet[4 * place..][..4];
+                if !balanced || row != [accepted, held, free, left] {
                     let id = String::from_utf8_lossy(&shipment.name.identifier);
                     return Err(format!(
-                        "{id} {money:?}: accepted {accepted}, held {held}, free {free}, left {left}"
+                        "{id} {money:?}: accepted {accepted}, held {held}, free {free}, \
+                         left {left}; the sheet has {row:?}"
                     ));
                 }
             }

@@ -1,11 +1,12 @@
 //! Lent memory between two guards, and what every call owes to its bytes: the
 //! guards and what lies behind the book are never touched, and a refusal (or a
-//! Short pairing) leaves every byte.
+//! Short pairing, or a sheet) leaves every byte.
 
 use crate::archive;
 use crate::layout::LENGTH;
-use buntingraft::Refusal;
+use buntingraft::{Refusal, SheetRow, Totals};
 use reference::{Answer, Call};
+use std::fmt::Debug;
 
 /// The length of each guard.
 const GUARD: usize = 64;
@@ -52,24 +53,51 @@ impl Lent {
 
     /// Makes an empty book, and says what was done or what was wrong with it.
     pub fn make_empty(&mut self) -> Result<Answer, String> {
-        self.watched(buntingraft::Call::MakeEmpty, archive::make_empty)
+        self.answered(buntingraft::Call::MakeEmpty, archive::make_empty)
     }
 
     /// Makes a call, and gives the archive's answer or what was wrong with it.
     pub fn call(&mut self, call: &Call) -> Result<Answer, String> {
-        self.watched(archive::kind(call), |bytes| archive::answer(bytes, call))
+        self.answered(archive::kind(call), |bytes| archive::answer(bytes, call))
     }
 
-    /// Acts on the lent bytes, and holds that to what is owed to them.
-    fn watched(
+    /// Takes the sheet, and gives the number of rows filled, or of its refusal;
+    /// or what was wrong with it.
+    pub fn sheet(
+        &mut self,
+        table: &mut [SheetRow],
+        totals: &mut Totals,
+    ) -> Result<Result<usize, u32>, String> {
+        let act = |bytes: &mut [u8]| archive::sheet(bytes, table, totals);
+        let answer = self.watched(buntingraft::Call::Sheet, act)?;
+        self.unchanged(answer)
+    }
+
+    /// Makes a call that an answer tells of.
+    fn answered(
         &mut self,
         kind: buntingraft::Call,
         act: impl FnOnce(&mut [u8]) -> Result<Answer, Refusal>,
     ) -> Result<Answer, String> {
+        let answer = self.watched(kind, act)?.unwrap_or_else(Answer::Refused);
+        if leaves_the_book(&answer) {
+            self.unchanged(answer)
+        } else {
+            Ok(answer)
+        }
+    }
+
+    /// Acts on the lent bytes, and holds that to what is owed to those around
+    /// the book.
+    fn watched<T: Debug>(
+        &mut self,
+        kind: buntingraft::Call,
+        act: impl FnOnce(&mut [u8]) -> Result<T, Refusal>,
+    ) -> Result<Result<T, u32>, String> {
         self.before.copy_from_slice(&self.memory);
         let answer = match act(self.bytes_mut()) {
-            Ok(answer) => answer,
-            Err(refusal) => Answer::Refused(number_in_table(kind, refusal)?),
+            Ok(answer) => Ok(answer),
+            Err(refusal) => Err(number_in_table(kind, refusal)?),
         };
         let behind = self.memory.len().min(GUARD + LENGTH);
         if self.memory[..GUARD] != self.before[..GUARD] {
@@ -78,10 +106,16 @@ impl Lent {
         if self.memory[behind..] != self.before[behind..] {
             return Err(format!("{answer:?}, and bytes behind the book changed"));
         }
-        if leaves_the_book(&answer) && self.memory != self.before {
-            return Err(format!("{answer:?}, and the book changed"));
-        }
         Ok(answer)
+    }
+
+    /// The answer to what was just done, if that left every byte as it was.
+    fn unchanged<T: Debug>(&self, answer: T) -> Result<T, String> {
+        if self.memory == self.before {
+            Ok(answer)
+        } else {
+            Err(format!("{answer:?}, and the book changed"))
+        }
     }
 }
 

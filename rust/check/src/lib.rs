@@ -3,6 +3,7 @@
 //! held to the other.
 //!
 //! - [`twin`], [`lent`], [`layout`]: lent memory and the reference's book side by side.
+//! - [`sheet`], [`lendings`]: the balance sheet of both, and what it is lent.
 //! - [`run`], [`ledger`]: a list of calls under way, and demand 3 over it.
 //! - [`directed`], [`memory`], [`lists`]: the cases, memory and lists tried.
 //! - [`coverage`]: what of it all was reached.
@@ -16,6 +17,7 @@ pub mod draft;
 pub mod generator;
 pub mod layout;
 pub mod ledger;
+pub mod lendings;
 pub mod lent;
 pub mod lists;
 pub mod memory;
@@ -24,6 +26,7 @@ pub mod numbers;
 pub mod orders;
 pub mod probe;
 pub mod run;
+pub mod sheet;
 pub mod stages;
 pub mod telling;
 pub mod twin;
@@ -31,6 +34,7 @@ pub mod twin;
 use coverage::Coverage;
 
 const _: () = assert!(layout::LENGTH == buntingraft::BOOK_BYTES);
+const _: () = assert!(reference::MOST_SHIPMENTS == buntingraft::MOST_SHIPMENTS);
 
 /// Runs the directed cases, the memory and so many random lists, prints what
 /// they covered, and says whether the directed cases and the memory alone

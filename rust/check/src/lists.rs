@@ -21,6 +21,7 @@ fn check_list(seed: u64, list: u64, coverage: &mut Coverage) {
     for _ in 0..generator.calls {
         let call = generator.call(run.book());
         run.call(call.clone());
+        let _ = run.sheet(&generator.lending(run.book()));
         run.probe(&generator.probes(&call, run.book()));
     }
     run.coverage.lists += 1;

@@ -5,6 +5,7 @@
 use crate::coverage::Coverage;
 use crate::layout::LENGTH;
 use crate::ledger::Ledger;
+use crate::sheet::{Lending, Taken};
 use crate::telling::{end_with, told};
 use crate::twin::Twin;
 use reference::{Answer, Book, Call};
@@ -55,22 +56,51 @@ impl<'a> Run<'a> {
     pub fn call(&mut self, call: Call) -> Answer {
         let answer = match self.twin.call(&call) {
             Ok(answer) => answer,
-            Err(difference) => self.differs(&call, &difference),
+            Err(difference) => self.differs(&told(&call), &difference),
         };
         if let Err(difference) = self.enter(&call, &answer) {
-            self.differs(&call, &format!("both answer {answer:?}, but {difference}"));
+            let difference = format!("both answer {answer:?}, but {difference}");
+            self.differs(&told(&call), &difference);
         }
         self.coverage.note(&call, &answer, Some(&self.held));
         self.made.push((call, answer));
         answer
     }
 
-    /// Reads the lent bytes after a call, and enters it in the ledger.
+    /// Reads the lent bytes and the sheet after a call, and enters it in the
+    /// ledger.
     fn enter(&mut self, call: &Call, answer: &Answer) -> Result<(), String> {
         let after = self.twin.held()?.ok_or("the book is not sound")?;
-        self.ledger.enter(call, answer, &self.held, &after)?;
+        let lending = Lending::for_book(&after);
+        let taken = self.twin.sheet(&lending);
+        let taken = taken.map_err(|difference| format!("{lending}: {difference}"))?;
+        self.coverage.note_sheet(&taken);
+        let rows = taken.map_err(|number| format!("{lending}: refused with {number}"))?;
+        let before = &self.held;
+        self.ledger.enter(call, answer, before, &after, &rows)?;
         self.held = after;
         Ok(())
+    }
+
+    /// Takes the sheet of the book as it stands, and gives what it answers.
+    pub fn sheet(&mut self, lending: &Lending) -> Taken {
+        match self.twin.sheet(lending) {
+            Ok(taken) => {
+                self.coverage.note_sheet(&taken);
+                taken
+            }
+            Err(difference) => self.differs(&lending.to_string(), &difference),
+        }
+    }
+
+    /// Takes the sheet, whose answer is known from the papers: the number of
+    /// rows filled, or of its refusal.
+    pub fn expect_sheet(&mut self, lending: &Lending, expected: Result<usize, u32>) {
+        let answer = self.sheet(lending).map(|rows| rows.len());
+        if answer != expected {
+            let difference = format!("both answer {answer:?}, not {expected:?}");
+            self.differs(&lending.to_string(), &difference);
+        }
     }
 
     /// Makes the next call, whose answer is known from the papers.
@@ -78,7 +108,8 @@ impl<'a> Run<'a> {
         let answer = self.call(call.clone());
         if answer != expected {
             self.made.pop();
-            self.differs(&call, &format!("both answer {answer:?}, not {expected:?}"));
+            let difference = format!("both answer {answer:?}, not {expected:?}");
+            self.differs(&told(&call), &difference);
         }
     }
 
@@ -92,7 +123,7 @@ impl<'a> Run<'a> {
                 coverage.note(call, answer, after)
             });
         if let Err((call, difference)) = tried {
-            self.differs(call, &difference);
+            self.differs(&told(call), &difference);
         }
     }
 
@@ -101,20 +132,19 @@ impl<'a> Run<'a> {
     pub fn probe(&mut self, calls: &[Call]) {
         let tried = self.twin.try_each(&mut self.aside, calls, |_, _, _| {});
         if let Err((call, difference)) = tried {
-            self.differs(call, &difference);
+            self.differs(&told(call), &difference);
         }
         self.coverage.probes += calls.len() as u64;
     }
 
-    /// Ends the program with the difference that a call showed.
-    fn differs(&self, call: &Call, difference: &str) -> ! {
+    /// Ends the program with the difference that a call or a sheet showed.
+    fn differs(&self, what: &str, difference: &str) -> ! {
         let mut so_far = String::new();
         for (call, answer) in &self.made {
             so_far += &format!("  {} -> {answer:?}\n", told(call));
         }
-        let call = told(call);
         end_with(&format!(
-            "{}\n{so_far}  {call} -> ?\n{difference}",
+            "{}\n{so_far}  {what} -> ?\n{difference}",
             self.title
         ));
     }

@@ -2,6 +2,7 @@
 
 use crate::layout::sound_book;
 use crate::lent::{leaves_the_book, Lent};
+use crate::sheet::{self, Lending, Taken};
 use reference::{Answer, Book, Call};
 
 /// Lent memory, and the book that it must hold: none where it is no sound book.
@@ -68,6 +69,11 @@ impl Twin {
                 .map_err(|difference| format!("both answer {archive:?}, but {difference}"))?;
         }
         Ok(archive)
+    }
+
+    /// Takes the sheet of both, and gives what it answers, or the difference.
+    pub fn sheet(&mut self, lending: &Lending) -> Result<Taken, String> {
+        sheet::take(&mut self.lent, self.book.as_ref(), lending)
     }
 
     /// Makes each of these calls on a copy of both, kept in `aside`, and tells

@@ -246,7 +246,7 @@ impl Shipment {
     }
 
     /// What a row is worth in a money: its amount, or F.
-    fn worth(&self, row: &Row, money: Money) -> u64 {
+    pub(crate) fn worth(&self, row: &Row, money: Money) -> u64 {
         match money {
             Money::K => row.amount,
             Money::O => self.fee,

@@ -10,16 +10,19 @@
 //! - [`name`]: the file's name and the transfer's title.
 //! - [`file`](mod@file): the profile and the questions a file is asked.
 //! - [`book`]: the book as plain values, its calls and their answers.
+//! - [`sheet`]: the balance sheet of a book.
 
 pub mod book;
 pub mod calendar;
 pub mod file;
 pub mod name;
+pub mod sheet;
 pub mod text;
 
 pub use book::{Answer, Book, Call, Money, Route, Row, Shipment, Stage, State, Waits};
 pub use file::{judge, read_file, Order, OrderFile, Profile};
 pub use name::{read_name, read_title, Name};
+pub use sheet::{SheetRow, Sums};
 
 /// "An order's amount is 1 to 999,999,999"; a fee is 0 to the same.
 pub const MOST_AMOUNT: u64 = 999_999_999;
@@ -27,6 +30,9 @@ pub const MOST_AMOUNT: u64 = 999_999_999;
 /// "a sum's [...] reads at most 9,999,999,999,999"; a transfer and a total of
 /// transfers have the same cap.
 pub const MOST_SUM: u64 = 9_999_999_999_999;
+
+/// "After adding, no total above 999,999,999,999,999?"
+pub const MOST_TOTAL: u64 = 999_999_999_999_999;
 
 /// "Fewer than 32 shipments in the book?"
 pub const MOST_SHIPMENTS: usize = 32;

@@ -2,10 +2,12 @@
 //! engineer's card. (Lines 9 to 12 of ZS1 are boundaries, and stand among the
 //! fields and dates.)
 
+use super::sheet::expect_rows;
 use crate::calls::*;
 use crate::coverage::Coverage;
 use crate::draft::Draft;
 use crate::run::Run;
+use crate::sheet::Lending;
 use buntingraft::Money::{K, O};
 use buntingraft::Route::{Opr, Zwr, Zzr};
 use reference::{Answer, Call};
@@ -40,10 +42,10 @@ fn expect_all(run: &mut Run, calls: Vec<(Call, Answer)>) {
     }
 }
 
-/// ZS1, lines 1 to 8; line 8's sums are the run's own balance.
+/// ZS1, lines 1 to 8; what has left by lines 6 and 8 is read off the sheet.
 fn zs1(coverage: &mut Coverage) {
     let mut run = Run::begin("ZS1".into(), 0, coverage);
-    let calls = vec![
+    let lines_1_to_6 = vec![
         (Draft::zs1().intake(), accepted(3, 1)),
         (transfer(TITLE_K, 17_549), Answer::Done),
         (transfer(TITLE_O, 1_050), Answer::Done),
@@ -58,11 +60,18 @@ fn zs1(coverage: &mut Coverage) {
         (give_back("ZS1", Opr, O), returned(350, 1)),
         (post("ZS1", 1), Answer::FeeEarned(350)),
         (pay("ZS1", 1), Answer::AmountPaid(10_000)),
+    ];
+    expect_all(&mut run, lines_1_to_6);
+    let sums = [17_650, 2_550, 0, 15_100, 1_050, 350, 0, 700];
+    expect_rows(&mut run, &[("ZS1", sums)]);
+    let line_7 = vec![
         (withdraw("ZS1", 3), Answer::Done),
         (give_back("ZS1", Zzr, K), returned(2_550, 1)),
         (give_back("ZS1", Zzr, O), returned(350, 1)),
     ];
-    expect_all(&mut run, calls);
+    expect_all(&mut run, line_7);
+    let sums = [17_650, 0, 0, 17_650, 1_050, 0, 0, 1_050];
+    expect_rows(&mut run, &[("ZS1", sums)]);
 }
 
 /// "Load a surname of 31 Polish letters."
@@ -107,17 +116,22 @@ fn one_grosz_short(coverage: &mut Coverage) {
     expect_all(&mut run, calls);
 }
 
-/// "Load a file whose sum is wrong, then read the sheet." The book's bytes are
-/// read in its place.
+/// "Load a file whose sum is wrong, then read the sheet."
 fn wrong_sum(coverage: &mut Coverage) {
     let mut run = Run::begin("card: wrong sum".into(), 0, coverage);
     run.expect(Draft::zs1().intake(), accepted(3, 1));
-    let before = run.bytes().to_vec();
+    let longer = Lending {
+        rows: 4,
+        totals: [5; 8],
+    };
+    run.expect_sheet(&longer, Ok(1));
+    let before = run.sheet(&longer);
     let draft = Draft::new("ZS2", &[10_000, 2_550]);
     let wrong = draft.clone().with_header(12, "125.51");
     run.expect(wrong.intake(), Answer::Refused(132));
-    assert!(run.bytes() == before, "a refused file left something");
+    assert_eq!(run.sheet(&longer), before, "a refused file left something");
     run.expect(draft.intake(), accepted(2, 0));
+    run.expect_sheet(&longer, Ok(2));
 }
 
 /// "Return the surplus twice."

@@ -1,5 +1,6 @@
 //! Cases taken from the papers one by one: every question and every two, every
-//! boundary, every refusal, full books, ZS1 and the field engineer's card.
+//! boundary, every refusal, full books, sheets, ZS1 and the field engineer's
+//! card.
 
 mod bytes;
 mod card;
@@ -8,6 +9,7 @@ mod fields;
 mod full;
 mod questions;
 mod refusals;
+mod sheet;
 
 use crate::coverage::Coverage;
 
@@ -19,5 +21,6 @@ pub fn check(coverage: &mut Coverage) {
     fields::check(coverage);
     refusals::check(coverage);
     full::check(coverage);
+    sheet::check(coverage);
     card::check(coverage);
 }

@@ -1,7 +1,7 @@
 //! Memory that is no book made by calls: too short, garbage, or a book with
 //! bytes changed by somebody else. Where it is a sound book all the same, the
-//! calls do what the reference does with that book; else they are refused with
-//! 10 (an intake with 900) and leave every byte.
+//! calls and the sheet do what the reference does with that book; else they are
+//! refused with 10 (an intake with 900) and leave every byte.
 
 mod corrupt;
 mod fields;
@@ -11,6 +11,7 @@ mod lengths;
 use crate::calls::{close, give_back_by_number, go_ahead, pair};
 use crate::coverage::Coverage;
 use crate::draft::Draft;
+use crate::lendings;
 use crate::naming::{title, MONEYS};
 use crate::probe::deeds_on;
 use crate::run::Run;
@@ -67,8 +68,8 @@ fn calls_in_turn(book: &Book, turn: usize) -> Vec<Call> {
     every_call(book, turn % count, turn / count)
 }
 
-/// Makes each call on a copy of this memory. `what` says which memory it is,
-/// should a difference show.
+/// Makes each call on a copy of this memory, and takes its sheet. `what` says
+/// which memory it is, should a difference show.
 fn try_calls(twin: &Twin, calls: &[Call], what: impl Fn() -> String, desk: &mut Desk) {
     let coverage = &mut *desk.coverage;
     let tried = twin.try_each(&mut desk.aside, calls, |call, answer, after| {
@@ -77,6 +78,12 @@ fn try_calls(twin: &Twin, calls: &[Call], what: impl Fn() -> String, desk: &mut 
     if let Err((call, difference)) = tried {
         let (what, call) = (what(), told(call));
         end_with(&format!("{what}\n  {call} -> ?\n{difference}"));
+    }
+    desk.aside.copy_from(twin);
+    let lending = lendings::in_turn(desk.coverage.memories);
+    match desk.aside.sheet(&lending) {
+        Ok(taken) => desk.coverage.note_sheet(&taken),
+        Err(difference) => end_with(&format!("{}\n  {lending} -> ?\n{difference}", what())),
     }
     desk.coverage.memories += 1;
 }

@@ -47,16 +47,18 @@ fn pair_one_grosz_short_then_exactly() {
 #[test]
 fn a_file_whose_sum_is_wrong() {
     // "Load a file whose sum is wrong, then read the sheet. Catches a file half
-    // entered." (The sheet is left out here: the book itself is read.)
+    // entered."
     let mut book = zs1_waiting();
-    let before = book.clone();
+    let before = sheet(&book);
     let draft = Draft::new("ZS2", &["100.00", "25.50"]).header(12, "125.51");
     assert_eq!(intake(&mut book, &draft), refused(132));
-    assert_eq!(book, before);
+    assert_eq!(sheet(&book), before);
+    assert_eq!(before.len(), 1);
     // The identifier is still free, so the right file is taken.
     let draft = Draft::new("ZS2", &["100.00", "25.50"]);
     assert_eq!(intake(&mut book, &draft), accepted(2, 0));
     assert_eq!(book.row_count(), 5);
+    assert_eq!(sheet(&book)[1].identifier, b"ZS2");
 }
 
 #[test]

@@ -1,6 +1,6 @@
 //! A good file to break, and short hands for the calls.
 
-use reference::{Answer, Book, Call, Profile};
+use reference::{Answer, Book, Call, Profile, SheetRow};
 
 pub const ZWR: u64 = 0;
 pub const OPR: u64 = 1;
@@ -269,6 +269,21 @@ pub fn give_back(book: &mut Book, identifier: &str, route: u64, money: u64) -> A
             money,
         },
     )
+}
+
+/// The sheet's rows, each of which must balance: accepted = held + free + left,
+/// in either money.
+pub fn sheet(book: &Book) -> Vec<SheetRow> {
+    let mut table = vec![SheetRow::default(); book.shipments.len()];
+    let filled = book.sheet(&mut table, &mut [0; 8]);
+    assert_eq!(filled, Ok(table.len()));
+    for row in &table {
+        for of_a_money in row.sums.chunks(4) {
+            let rest: u64 = of_a_money[1..].iter().sum();
+            assert_eq!(of_a_money[0], rest, "{row:?}");
+        }
+    }
+    table
 }
 
 /// A book with a Waiting shipment ZS1.

@@ -1,9 +1,9 @@
 //! Demand 3 over lists of calls made by a simple fixed sequence of numbers:
-//! transfers accepted equal held plus free plus left, nothing leaves twice,
-//! refused calls and other shipments' calls move nothing.
+//! transfers accepted equal held plus free plus left, the sheet says the same,
+//! nothing leaves twice, refused calls and other shipments' calls move nothing.
 
 use crate::helpers::*;
-use reference::{Answer, Book, Call, Money, Shipment};
+use reference::{Answer, Book, Call, Money, SheetRow, Shipment};
 use std::collections::HashSet;
 
 /// A plain linear congruential sequence.
@@ -75,6 +75,14 @@ fn sums(book: &Book, name: &str, money: Money) -> (u64, u64, u64) {
     }
 }
 
+/// The sheet's four sums of a money, zero before intake.
+fn on_the_sheet(rows: &[SheetRow], name: &str, place: usize) -> [u64; 4] {
+    match rows.iter().find(|row| row.identifier == name.as_bytes()) {
+        None => [0; 4],
+        Some(row) => std::array::from_fn(|sum| row.sums[4 * place + sum]),
+    }
+}
+
 /// Which orders' money waits, for the rule that none leaves twice.
 fn waiting(shipment: &Shipment, money: Money) -> Vec<usize> {
     (0..shipment.rows.len())
@@ -128,11 +136,16 @@ fn money_is_conserved_over_lists_of_calls() {
                 }
                 _ => {}
             }
+            let rows = sheet(&book);
             for (other, name) in IDENTIFIERS.iter().enumerate() {
                 for (place, money) in MONEYS.into_iter().enumerate() {
                     let (accepted, held, free) = sums(&book, name, money);
                     assert_eq!(accepted, came[other][place]);
                     assert_eq!(accepted, held + free + left[other][place]);
+                    assert_eq!(
+                        on_the_sheet(&rows, name, place),
+                        [accepted, held, free, left[other][place]]
+                    );
                     if other != which {
                         assert_eq!(
                             sums(&before, name, money),

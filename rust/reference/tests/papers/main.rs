@@ -6,4 +6,5 @@ mod file_questions;
 mod helpers;
 mod lists;
 mod refusals;
+mod sheet;
 mod zs1;
