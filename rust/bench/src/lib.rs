@@ -2,4 +2,5 @@
 
 pub mod calls;
 pub mod files;
+pub mod sheets;
 pub mod twin;

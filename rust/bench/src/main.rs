@@ -18,5 +18,6 @@ fn main() {
         let [whole, bare] = on_books::full_book(&clock, shipments, orders);
         println!("{whole}\n{bare}");
     }
-    print!("{}", on_books::rows(&clock));
+    println!("{}", on_books::rows(&clock));
+    print!("{}", on_books::sheets(&clock));
 }

@@ -1,12 +1,14 @@
 //! What is measured on books: each call on a full book, with its soundness pass
-//! and without, and the cost against the number of rows.
+//! and without, the cost against the number of rows, and the balance sheet.
 
 use crate::books::{Books, Fate};
 use crate::table::{Table, FULL_BOOK, NONE};
-use crate::timing::{Clock, Effort};
+use crate::timing::{nanoseconds, Clock, Effort};
 use bench::calls::{agreed, Answer, Archive, Call, Rival, Twin};
 use bench::files::Records;
+use bench::sheets::{agreed_sheet, archive_sheet, twin_sheet, Lent};
 use buntingraft::{Money, Route};
+use std::hint::black_box;
 
 const EFFORT: Effort = Effort {
     turns: 200,
@@ -110,6 +112,23 @@ pub fn rows(clock: &Clock) -> Table {
         );
         add("pair", race(clock, &books.ready, Call::Pair(id)).whole);
         add("OPR, K", race(clock, &books.paired, opr).whole);
+    }
+    table
+}
+
+/// The balance sheet of books of one shipment, and of a book of 32.
+pub fn sheets(clock: &Clock) -> Table {
+    let mut table = Table::new("The balance sheet", "twin", NONE);
+    for (shipments, orders) in [(1, 1), (1, 64), (1, 512), (1, 2_048), (32, 64)] {
+        let mut book = Books::new(shipments, orders, Records::Faulty).in_all_states();
+        assert_eq!(agreed_sheet(&book, &Lent::default()), Ok(shipments));
+        let mut lent = Lent::default();
+        let times = clock.take_turns(EFFORT, |entry| {
+            lent.totals = Default::default();
+            let sheet = [archive_sheet, twin_sheet][entry];
+            nanoseconds(|| sheet(black_box(&mut book), black_box(&mut lent)))
+        });
+        table.add_call(&format!("{shipments} × {orders} orders"), times);
     }
     table
 }

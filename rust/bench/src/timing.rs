@@ -42,15 +42,28 @@ impl Clock {
         entries: [(Make, Call); N],
     ) -> [f64; N] {
         let mut memory = book.to_vec();
+        self.take_turns(effort, |entry| {
+            let (make, call) = &entries[entry];
+            memory.copy_from_slice(book);
+            nanoseconds(|| make(black_box(&mut memory), black_box(call)))
+        })
+    }
+
+    /// The shortest time of each of N entries, in nanoseconds. `time_call` makes
+    /// an entry's call once and says how long it took by the clock.
+    pub fn take_turns<const N: usize>(
+        &self,
+        effort: Effort,
+        mut time_call: impl FnMut(usize) -> f64,
+    ) -> [f64; N] {
         let mut shortest = [f64::INFINITY; N];
         for turn in 0..=effort.turns {
-            for (entry, (make, call)) in entries.iter().enumerate() {
+            for (entry, shortest) in shortest.iter_mut().enumerate() {
                 for _ in 0..effort.calls {
-                    memory.copy_from_slice(book);
-                    let time = nanoseconds(|| make(black_box(&mut memory), black_box(call)));
+                    let time = time_call(entry);
                     let is_warm = turn > 0;
-                    if is_warm && time < shortest[entry] {
-                        shortest[entry] = time;
+                    if is_warm && time < *shortest {
+                        *shortest = time;
                     }
                 }
             }
@@ -72,7 +85,7 @@ impl fmt::Display for Clock {
 }
 
 /// How many nanoseconds some work takes, with the cost of reading the clock.
-fn nanoseconds<T>(work: impl FnOnce() -> T) -> f64 {
+pub fn nanoseconds<T>(work: impl FnOnce() -> T) -> f64 {
     let start = Instant::now();
     black_box(work());
     start.elapsed().as_nanos() as f64

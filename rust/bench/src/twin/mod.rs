@@ -12,6 +12,7 @@ mod lines;
 mod name;
 mod records;
 mod returns;
+mod sheet;
 mod sound;
 mod text;
 

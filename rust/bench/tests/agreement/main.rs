@@ -3,6 +3,7 @@
 
 mod directed;
 mod random;
+mod sheets;
 mod soundness;
 
 use bench::calls::{Answer, Archive, Call, Rival, Twin};

@@ -1,5 +1,6 @@
 //! Long lists of random calls, some of them with spoilt files and names.
 
+use crate::sheets::agree_on_sheets;
 use crate::Rivals;
 use bench::calls::{Answer, Call};
 use bench::files::{order_file, Records};
@@ -106,6 +107,7 @@ fn random_calls_are_answered_alike() {
             let answer = call(&mut dice, &mut rivals);
             done += usize::from(!matches!(answer, Answer::Refused(_)));
         }
+        agree_on_sheets(&rivals.archive);
     }
     assert!(done > 6_000, "{done}");
 }
