@@ -17,10 +17,9 @@ use Rattle.epe.specs.Ident.{identInForm}
 use Rattle.epe.specs.Name.{nameInForm}
 use Rattle.epe.specs.declared.name.Name.{Name}
 use Rattle.epe.specs.declared.record.Order.{Order}
-use Rattle.model.specs.Book.{enteredRow}
+use Rattle.model.specs.Book.{enteredRow, newShipment}
 use Rattle.model.specs.Sound.{faultInRange}
 use Rattle.model.specs.declared.Row.{Row}
-use Rattle.model.specs.declared.Stage.the-variants.{Waiting}
 use Rattle.model.specs.declared.State.{State}
 use Rattle.model.specs.declared.State.the-variants.{Open, Faulty}
 use Rattle.model.proofs.SoundParts.{halves}
@@ -133,17 +132,7 @@ module _ (name : Name) (fee n : ℕ) (long : length (name .ident .bytes) ≡ 17)
   number-there : (width q : ℕ) → numberAt width head (17 + q) ≡ numberAt width (fieldsOf name fee n) q
   number-there width q = rw long at (number-behind width (name .ident .bytes) (fieldsOf name fee n) q)
 
-  shipment-there : Fits name → fee < 2 ^ 32 → (rows : List Row) → shipmentIn head rows ≡ record {
-    name = name;
-    fee = fee;
-    stage = Waiting;
-    goAhead = false;
-    acceptedK = 0;
-    acceptedO = 0;
-    returnedK = 0;
-    returnedO = 0;
-    rows = rows;
-  }
+  shipment-there : Fits name → fee < 2 ^ 32 → (rows : List Row) → shipmentIn head rows ≡ newShipment name fee rows
   unfolding shipmentIn numberAt stageOf fieldsOf
   shipment-there fits fee-fits rows =
       let date : numberAt 4 head 18 ≡ name .date .0 = number-there 4 1 ∙ omega (arith, fits .date) in
