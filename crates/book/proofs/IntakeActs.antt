@@ -13,7 +13,7 @@ use Rattle.money.specs.Money.{orderCap}
 use Rattle.epe.specs.Name.{nameOf, nameInForm}
 use Rattle.epe.specs.Profile.{feesFit, profileFits}
 use Rattle.epe.specs.Opening.{opening, openingOf}
-use Rattle.epe.specs.Contents.{contents, orders, faultyCount, judgedOf}
+use Rattle.epe.specs.Contents.{contents, orders, ordersRead, faultyCount, judgedOf}
 use Rattle.epe.specs.Accepted.{EachInRange}
 use Rattle.epe.specs.Kept.{ordersIn, keptFrom}
 use Rattle.epe.specs.declared.file.Opening.{Opening}
@@ -25,6 +25,7 @@ use Rattle.epe.specs.declared.record.Order.{Order}
 use Rattle.epe.specs.declared.verdict.Verdict.{Verdict}
 use Rattle.epe.specs.declared.verdict.Verdict.the-variants.{Passed, Refused as No}
 use Rattle.epe.proofs.AcceptedAsStated.{accepted-as-stated}
+use Rattle.epe.proofs.Judging.{accepted-is-read}
 use Rattle.epe.proofs.Keeping.{kept-in-order}
 use Rattle.model.specs.Shipment.{Shipment}
 use Rattle.model.specs.Calls.{Call, Intake, Answer, Refused, Accepted}
@@ -166,7 +167,7 @@ module _ (m : List ℕ) (i : ℕ) (profile : Profile) (name : Name) (file : List
     }
 
     module _ {n faulty : ℕ} (accepted : result ≡ judged.Accepted n faulty) (table : List ℕ) {kept : List ℕ} (enough : 2_048 ≤ length table)
-        (is-kept : contents profile file ≡ Passed → kept ≡ keptFrom table 0 (orders file)) (as-long : length kept ≡ length table) where
+        (is-kept : kept ≡ keptFrom table 0 (ordersRead profile file)) (as-long : length kept ≡ length table) where
       passed : (contents profile file ≡ Passed) × ((n ≡ length (orders file)) × (faulty ≡ faultyCount (orders file)))
       passed = passed-or-not (contents profile file) n faulty (sym is-result ∙ accepted)
 
@@ -177,7 +178,7 @@ module _ (m : List ℕ) (i : ℕ) (profile : Profile) (name : Name) (file : List
       in-table : n ≤ 2_048 → ordersIn kept 0 n ≡ orders file
       in-table few =
           let all = passed .1 .0 in
-          rw (is-kept (passed .0), all) (kept-in-order table (orders file) in-range (omega arith))
+          rw (is-kept, accepted-is-read profile file (passed .0), all) (kept-in-order table (orders file) in-range (omega arith))
 
       pub counted : Counted n kept
       counted = record { enough = omega arith; in-range = λ few. rw (in-table few) in-range }

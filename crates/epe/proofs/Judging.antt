@@ -4,21 +4,19 @@ use mathlib.Core.Path.{_≡_, refl, sym, _∙_, ap}
 use mathlib.Core.Bool.{Bool, true, false, cond, _&&_}
 use mathlib.Core.List.{List, [], _∷_, _++_, map}
 use Prim.Native.Nat.{ℕ, _+_, _≤_}
-use native.Mathlib.Omega.{arith}
 use borrow.Author.Tests.{leb-true}
 use lib.Dec.{eqb, leb, ltb}
 use lib.ListN.{length, length-map}
 use Rattle.text.specs.Bytes.{between, part}
-use Rattle.text.proofs.Branches.{and-right}
+use Rattle.text.proofs.Branches.{and-left, and-right}
 use Rattle.calendar.specs.Calendar.{real}
 use Rattle.epe.specs.Questions.{Question, firstNo, isPassed}
-use Rattle.epe.specs.Contents.{allShaped, allPriced, total, orderOf, orders, faultyCount, statedCount, statedSum, dateQuestions, statedQuestions, recordQuestions, contentsQuestions, contents, judgedOf}
+use Rattle.epe.specs.Contents.{shaped, allShaped, allPriced, total, orderOf, orders, faultyCount, statedCount, statedSum, dateQuestions, statedQuestions, recordQuestions, contentsQuestions, contents, judgedOf, linesRead, ordersRead, AcceptedIsRead}
 use Rattle.epe.specs.File.{header, records}
 use Rattle.epe.specs.Profile.{feesFit, profileFits}
 use Rattle.epe.specs.Kept.{keptFrom}
 use Rattle.epe.specs.Walk.{linesFrom, lineEnd, body}
 use Rattle.epe.specs.Tally.{Tallied, tallyJudged}
-use Rattle.epe.specs.declared.file.Judged.{Judged}
 use Rattle.epe.specs.declared.file.Judged.the-variants.{Accepted, Refused as NotAccepted}
 use Rattle.epe.specs.declared.file.Tally.{Tally}
 use Rattle.epe.specs.declared.record.Order.{Order}
@@ -82,12 +80,6 @@ pub judged-after : (ps qs : List Question) (os : List Order) → firstNo ps ≡ 
 unfolding isPassed
 judged-after ps qs os e = ap (λ (v : Verdict). judgedOf v os) (join-yes ps qs Passed (sym e) refl)
 
--- a refusal leaves open what a table keeps
-pub refused-not-passed : {n : ℕ} (verdict : Verdict) (os : List Order) → NotAccepted n ≡ judgedOf verdict os → verdict ≡ Passed → ⊥
-unfolding judgedOf
-refused-not-passed (Refused n) os e h = let never : _≡_ {A = ℕ} 0 1 = cc in omega arith
-refused-not-passed Passed os e h = let never : _≡_ {A = ℕ} 0 1 = cc in omega arith
-
 -- a profile that fits has at most 32 fields to a record
 pub fields-allowed : (profile : Profile) → profileFits profile ≡ true → profile .fields ≤ 32
 unfolding profileFits
@@ -101,6 +93,10 @@ fields-allowed profile h =
 pub profile-refused : (profile : Profile) (file : List ℕ) (os : List Order) → profileFits profile ≡ false → NotAccepted 905 ≡ judgedOf (contents profile file) os
 unfolding contents contentsQuestions firstNo judgedOf
 profile-refused profile file os h = rw h
+
+pub profile-none-read : (profile : Profile) (file table : List ℕ) → profileFits profile ≡ false → table ≡ keptFrom table 0 (ordersRead profile file)
+unfolding ordersRead keptFrom
+profile-none-read profile file table h = rw h
 
 -- the header's line as the code finds it
 pub header-line : (file t line : List ℕ) (end : ℕ) → t ≡ body file → end ≡ lineEnd 0 t → line ≡ part 0 end t → line ≡ header file
@@ -124,6 +120,11 @@ module _ (profile : Profile) (file t line : List ℕ) (end : ℕ) (fits : profil
   unfolding asked
   statement-refused n e = rw behind (judged-early n asked _ (orders file) (rw is-header at e))
 
+  pub statement-none-read : (n : ℕ) (table : List ℕ) → firstNo (dateQuestions (profile .today) line ++ statedQuestions line) ≡ Refused n
+      → table ≡ keptFrom table 0 (ordersRead profile file)
+  unfolding ordersRead keptFrom isPassed
+  statement-none-read n table e = rw (fits, ← is-header, e)
+
   module _ {tally : Tally} {from : ℕ} {before after : List ℕ} (begun : from ≡ cond (ltb end (length t)) (end + 2) (length t + 1))
       (walked : Tallied (profile .fields) (linesFrom from t) tally before after) where
     tallied : Tallied (profile .fields) (records file) tally before after
@@ -139,9 +140,33 @@ module _ (profile : Profile) (file t line : List ℕ) (end : ℕ) (fits : profil
         (tally-judges (profile .fields) (header file) (records file) tally tallied
         ∙ judged-after asked _ (orders file) (rw is-header at e))
 
-    -- all lines are shaped where the contents pass
-    pub records-kept : contents profile file ≡ Passed → after ≡ keptFrom before 0 (orders file)
-    unfolding contents contentsQuestions dateQuestions statedQuestions recordQuestions orders
-    records-kept passed =
-        let yes = all-yes (contentsQuestions profile file) passed in
-        tallied .kept (tallied .shape ∙ yes .1 .1 .1 .1 .1 .1 .1 .1 .1 .1 .0)
+    pub records-read : firstNo (dateQuestions (profile .today) line ++ statedQuestions line) ≡ Passed → after ≡ keptFrom before 0 (ordersRead profile file)
+    unfolding ordersRead isPassed
+    records-read e = rw (fits, ← is-header, e) (tallied .kept)
+
+-- where all lines are shaped, all are read
+all-read : (r n : ℕ) (lines : List (List ℕ)) → allShaped r n lines ≡ true → linesRead r n lines ≡ lines
+unfolding allShaped linesRead
+all-read r n [] h = refl
+all-read r n (line ∷ lines) h =
+    rw (and-left (shaped r n line) (allShaped r (n + 1) lines) h)
+    (ap (λ read. line ∷ read) (all-read r (n + 1) lines (and-right (shaped r n line) (allShaped r (n + 1) lines) h)))
+
+pub accepted-is-read : AcceptedIsRead
+unfolding contents contentsQuestions dateQuestions statedQuestions recordQuestions ordersRead orders firstNo isPassed
+accepted-is-read profile file passed =
+    let yes = all-yes (contentsQuestions profile file) passed in
+    let header-yes = yes .1 in
+    rw (
+      yes .0,
+      header-yes .0,
+      header-yes .1 .0,
+      header-yes .1 .1 .0,
+      header-yes .1 .1 .1 .0,
+      header-yes .1 .1 .1 .1 .0,
+      header-yes .1 .1 .1 .1 .1 .0,
+      header-yes .1 .1 .1 .1 .1 .1 .0,
+      header-yes .1 .1 .1 .1 .1 .1 .1 .0,
+      header-yes .1 .1 .1 .1 .1 .1 .1 .1 .0,
+    )
+    (ap (map orderOf) (all-read (profile .fields) 1 (records file) (header-yes .1 .1 .1 .1 .1 .1 .1 .1 .1 .0)))

@@ -1,26 +1,26 @@
 -- The walk over a text's lines, one after the other, and the tally and the table that are kept on the way.
 -- Assumes nothing.
-use mathlib.Core.Path.{_≡_, refl, sym, _∙_, ap}
+use mathlib.Core.Path.{_≡_, refl, sym, _∙_}
 use mathlib.Core.Bool.{Bool, true, false, true≢false, cond, not, _&&_}
 use mathlib.Core.List.{List, [], _∷_, map}
-use Prim.Native.Nat.{ℕ, _+_, _*_, _-_, _^_, _<_, _≤_}
+use Prim.Native.Nat.{ℕ, _+_, _*_, _^_, _<_, _≤_}
 use native.Mathlib.Decide.{decLt}
 use native.Mathlib.Omega.{arith}
 use borrow.Author.Tests.{lt-ltb, le-ltb, le-leb, lt-leb, eqb-true}
-use lib.Dec.{eqb, leb, ltb, lit<}
-use lib.ListN.{length, getD, set, drop, length-set}
+use lib.Dec.{eqb, ltb, lit<}
+use lib.ListN.{length, set, drop, length-set}
 use Rattle.text.specs.Bytes.{same, part}
 use Rattle.text.specs.Quoted.{bytes}
 use Rattle.text.specs.Number.{number, isNumber, valueOf}
 use Rattle.text.specs.Fields.{fields}
-use Rattle.text.specs.Lines.{parted, lines, lineStop, stray}
-use Rattle.text.proofs.Branches.{and-left, and-right}
+use Rattle.text.specs.Lines.{parted, lines, stray}
+use Rattle.text.proofs.Branches.{and-right}
 use Rattle.text.proofs.Digits.{number-bound, value-bound}
 use Rattle.text.proofs.LineEnds.{line-end-le, line-here, last-line-here}
 use Rattle.text.proofs.Places.{part-to-end}
 use Rattle.money.proofs.Reading.{order-text-bound}
 use Rattle.epe.specs.File.{text, header, records, field}
-use Rattle.epe.specs.Contents.{shaped, allShaped, amountIn, allPriced, total, orderOf, faultyCount}
+use Rattle.epe.specs.Contents.{shaped, allShaped, amountIn, allPriced, total, orderOf, faultyCount, linesRead}
 use Rattle.epe.specs.Kept.{Keepable, codeOf, keptFrom}
 use Rattle.epe.specs.Walk.{linesFrom, lineEnd, nextLine, body}
 use Rattle.epe.specs.Tally.{RecordOf, added, Small, Tallied}
@@ -104,7 +104,8 @@ pub record Going (fields : ℕ) (lines left : List (List ℕ)) (tally : Tally) (
   pub counted : tally .count + length left ≡ length lines
   pub summed : tally .sum + total left ≡ total lines
   pub faults : tally .faulty + faultyCount (map orderOf left) ≡ faultyCount (map orderOf lines)
-  pub keeping : keptFrom kept (tally .count) (map orderOf left) ≡ keptFrom before 0 (map orderOf lines)
+  pub keeping : keptFrom kept (tally .count) (map orderOf (linesRead fields (tally .count + 1) left))
+      ≡ keptFrom before 0 (map orderOf (linesRead fields 1 lines))
   pub as-long : length kept ≡ length before
   pub few : tally .count ≤ 999_999
   pub little : tally .sum ≤ tally .count * 999_999_999
@@ -135,10 +136,11 @@ mark-at-most fault = one-at-most (eqb fault 0)
 
 module _ (fields : ℕ) (lines left : List (List ℕ)) (line : List ℕ) (tally : Tally) (before kept : List ℕ)
     (going : Going fields lines (line ∷ left) tally before kept) where
-  -- a line that is not shaped settles the question
-  pub going-misshaped : shaped fields (tally .count + 1) line ≡ false → allShaped fields 1 lines ≡ false
-  unfolding allShaped
-  going-misshaped h = sym (going .shape) ∙ rw h
+  -- a line that is not shaped settles the question, and no more is read
+  pub going-misshaped : shaped fields (tally .count + 1) line ≡ false
+      → (allShaped fields 1 lines ≡ false) × (kept ≡ keptFrom before 0 (map orderOf (linesRead fields 1 lines)))
+  unfolding allShaped linesRead keptFrom
+  going-misshaped h = (sym (going .shape) ∙ rw h, rw h at (going .keeping))
 
   and-on : (t u v : Bool) → ((t && u) && v) ≡ (t && (u && v))
   and-on true u v = refl
@@ -147,7 +149,7 @@ module _ (fields : ℕ) (lines left : List (List ℕ)) (line : List ℕ) (tally 
   -- a line that is shaped is added, and its order kept
   pub going-on : shaped fields (tally .count + 1) line ≡ true
       → Going fields lines left (added tally (orderOf line)) before (set kept (tally .count) (codeOf (orderOf line)))
-  unfolding added allShaped allPriced total faultyCount keptFrom orderOf
+  unfolding added allShaped allPriced total faultyCount linesRead keptFrom orderOf
   going-on h =
       let bound = order-text-bound (field 3 line) in
       let small = number-few fields (tally .count + 1) line h in
@@ -159,7 +161,7 @@ module _ (fields : ℕ) (lines left : List (List ℕ)) (line : List ℕ) (tally 
         counted = omega (arith, going .counted);
         summed = omega (arith, going .summed);
         faults = omega (arith, going .faults);
-        keeping = going .keeping;
+        keeping = rw h at (going .keeping);
         as-long = length-set kept (tally .count) (codeOf (orderOf line)) ∙ going .as-long;
         few = omega arith;
         little = omega (arith, going .little);
@@ -168,14 +170,14 @@ module _ (fields : ℕ) (lines left : List (List ℕ)) (line : List ℕ) (tally 
 
 pub going-end : (fields : ℕ) (lines : List (List ℕ)) (tally : Tally) (before kept : List ℕ) → Going fields lines [] tally before kept
     → Tallied fields lines tally before kept
-unfolding allShaped allPriced total faultyCount keptFrom
+unfolding allShaped allPriced total faultyCount linesRead keptFrom
 going-end fields lines tally before kept going = record {
   shape = going .begun ∙ going .shape;
   prices = λ h. and-yes (tally .priced) ∙ going .prices;
   counted = λ h. omega (arith, going .counted);
   summed = λ h. omega (arith, going .summed);
   faults = λ h. omega (arith, going .faults);
-  kept = λ h. going .keeping;
+  kept = going .keeping;
 }
   where
     and-yes : (t : Bool) → t ≡ (t && true)
@@ -186,7 +188,8 @@ going-end fields lines tally before kept going = record {
 pub record Turn (fields : ℕ) (s : List ℕ) (from at : ℕ) (tally : Tally) (before kept : List ℕ) (read : RecordRead) (end : ℕ) : Type 0 where
   pub small : Small tally (read .order)
   pub keepable : Keepable (read .order)
-  pub misshaped : read .shaped ≡ false → allShaped fields 1 (linesFrom from s) ≡ false
+  pub misshaped : read .shaped ≡ false
+      → (allShaped fields 1 (linesFrom from s) ≡ false) × (kept ≡ keptFrom before 0 (map orderOf (linesRead fields 1 (linesFrom from s))))
   pub on : (tally′ : Tally) (kept′ : List ℕ) (at′ : ℕ) → read .shaped ≡ true → tally′ ≡ added tally (read .order)
       → kept′ ≡ set kept (tally .count) (codeOf (read .order))
       → at′ ≡ cond (ltb end (length s)) (end + 2) (length s + 1)
@@ -216,12 +219,12 @@ turn-of fields s from at tally before kept read line end inside allowed going en
 
 -- the tally of lines that are not all shaped
 pub tallied-misshaped : (fields : ℕ) (lines : List (List ℕ)) (tally : Tally) (before kept : List ℕ) → tally .shaped ≡ false
-    → allShaped fields 1 lines ≡ false → Tallied fields lines tally before kept
+    → (allShaped fields 1 lines ≡ false) × (kept ≡ keptFrom before 0 (map orderOf (linesRead fields 1 lines))) → Tallied fields lines tally before kept
 tallied-misshaped fields lines tally before kept n h = record {
-  shape = n ∙ sym h;
+  shape = n ∙ sym (h .0);
   prices = λ t. absurd (true≢false (sym t ∙ n));
   counted = λ t. absurd (true≢false (sym t ∙ n));
   summed = λ t. absurd (true≢false (sym t ∙ n));
   faults = λ t. absurd (true≢false (sym t ∙ n));
-  kept = λ t. absurd (true≢false (sym t ∙ n));
+  kept = h .1;
 }

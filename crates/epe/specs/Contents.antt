@@ -1,5 +1,6 @@
 -- The contents of an order file: the header's other fields, and the records.
-use mathlib.Core.Bool.{Bool, true, false, cond, not, _&&_}
+use mathlib.Core.Path.{_≡_}
+use mathlib.Core.Bool.{Bool, true, cond, not, _&&_}
 use mathlib.Core.List.{List, [], _∷_, _++_, map}
 use Prim.Native.Nat.{ℕ, _+_}
 use lib.Dec.{leb, ltb, eqb}
@@ -14,7 +15,7 @@ use Rattle.money.specs.Text.{orderText, sumText}
 use Rattle.calendar.specs.Reading.{dateOfDigits, dateInWindow}
 use Rattle.calendar.specs.declared.date.Date.{Date}
 use Rattle.calendar.specs.Time.{timeOfDay}
-use Rattle.epe.specs.Questions.{Question, _⇒_, firstNo}
+use Rattle.epe.specs.Questions.{Question, _⇒_, firstNo, isPassed}
 use Rattle.epe.specs.Profile.{profileFits}
 use Rattle.epe.specs.File.{header, records, field}
 use Rattle.epe.specs.Faults.{faultOf}
@@ -109,6 +110,21 @@ orderOf line = record { amount = record { 0 = amountIn line }; fault = faultOf l
 
 unfoldable pub orders : List ℕ → List Order
 orders file = map orderOf (records file)
+
+-- The orders that are read while a file is judged: none unless the profile and the header pass, and then those of the record lines up to the first
+-- that is not in shape. Of a file that is accepted, they are its orders.
+unfoldable pub linesRead : ℕ → ℕ → List (List ℕ) → List (List ℕ)
+linesRead r n [] = []
+linesRead r n (line ∷ lines) = cond (shaped r n line) (line ∷ linesRead r (n + 1) lines) []
+
+unfoldable pub ordersRead : Profile → List ℕ → List Order
+ordersRead profile file =
+    cond (profileFits profile && isPassed (firstNo (dateQuestions (profile .today) (header file) ++ statedQuestions (header file))))
+    (map orderOf (linesRead (profile .fields) 1 (records file)))
+    []
+
+abbrev pub AcceptedIsRead : Type 0
+AcceptedIsRead = (profile : Profile) (file : List ℕ) → contents profile file ≡ Passed → ordersRead profile file ≡ orders file
 
 -- "An accepted file answers its order count and its faulty count."
 unfoldable pub faultyCount : List Order → ℕ

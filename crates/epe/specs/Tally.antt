@@ -1,11 +1,11 @@
 -- What one look at a record line tells, and the tally that a walk over the records keeps.
 use mathlib.Core.Path.{_≡_}
-use mathlib.Core.Bool.{Bool, true, cond, _&&_}
-use mathlib.Core.List.{List, [], _∷_, _++_, map}
+use mathlib.Core.Bool.{true, cond, _&&_}
+use mathlib.Core.List.{List, _++_, map}
 use Prim.Native.Nat.{ℕ, _+_, _*_, _≤_}
 use lib.Dec.{eqb, leb, ltb}
 use lib.ListN.{length}
-use Rattle.epe.specs.Contents.{dateQuestions, statedQuestions, statedCount, statedSum, shaped, allShaped, allPriced, total, orderOf, faultyCount}
+use Rattle.epe.specs.Contents.{dateQuestions, statedQuestions, statedCount, statedSum, shaped, allShaped, allPriced, total, orderOf, faultyCount, linesRead}
 use Rattle.epe.specs.Kept.{keptFrom}
 use Rattle.money.specs.Money.{orderCap}
 use Rattle.calendar.specs.declared.date.Date.{Date}
@@ -34,15 +34,14 @@ added tally order = record {
   faulty = tally .faulty + cond (eqb (order .fault) 0) 0 1;
 }
 
--- The tally of some record lines: whether all are shaped and, where they are, what they come to, and that a table keeps their orders.
--- What it holds where they are not is left open.
+-- The tally of some record lines: whether all are shaped and, where they are, what they come to; and that a table keeps the orders of those read.
 pub record Tallied (fields : ℕ) (lines : List (List ℕ)) (tally : Tally) (before after : List ℕ) : Type 0 where
   pub shape : tally .shaped ≡ allShaped fields 1 lines
   pub prices : tally .shaped ≡ true → tally .priced ≡ allPriced lines
   pub counted : tally .shaped ≡ true → tally .count ≡ length lines
   pub summed : tally .shaped ≡ true → tally .sum ≡ total lines
   pub faults : tally .shaped ≡ true → tally .faulty ≡ faultyCount (map orderOf lines)
-  pub kept : tally .shaped ≡ true → after ≡ keptFrom before 0 (map orderOf lines)
+  pub kept : after ≡ keptFrom before 0 (map orderOf (linesRead fields 1 lines))
 
 -- What is added stays within 64 bits.
 pub record Small (tally : Tally) (order : Order) : Type 0 where

@@ -9,12 +9,11 @@ ghost use Rattle.text.specs.Utf8.{wellFormed};
 ghost use Rattle.epe.specs.Questions.{firstNo};
 ghost use Rattle.epe.specs.File.{marked, text};
 ghost use Rattle.epe.specs.Opening.{fileQuestions, fixedQuestions, repeatedQuestions, opening, openingOf};
-ghost use Rattle.epe.specs.Contents.{dateQuestions, statedQuestions, contents, orders, judgedOf};
+ghost use Rattle.epe.specs.Contents.{dateQuestions, statedQuestions, contents, orders, judgedOf, ordersRead};
 ghost use Rattle.epe.specs.Cut.{CutOf};
 ghost use Rattle.epe.specs.Kept.{keptFrom};
 ghost use Rattle.epe.specs.Walk.{linesFrom, body};
 ghost use Rattle.epe.specs.Tally.{added, Small, StatedOf, Tallied, tallyJudged};
-ghost use Rattle.epe.specs.declared.verdict.Verdict.the-variants.{Passed};
 use crate::header::judge_dates;
 use crate::header::judge_fixed;
 use crate::header::judge_repeated;
@@ -259,10 +258,10 @@ pub fn open(name: &[u8], file: &[u8]) -> Opening
     }
 }
 
-// What the contents of a file come to. Where they pass, the table keeps the file's orders from its first entry on; after a refusal it may hold some of them.
+// What the contents of a file come to. The table keeps the orders that are read, from its first entry on: of a file that passes, all.
 pub fn judge_contents(profile: Profile, file: &[u8], kept: &mut [u64]) -> Judged
     ensures { λ r. ⌜ r ≡ judgedOf (contents profile (now (file .entry))) (orders (now (file .entry))) ⌝ }
-    ensures { λ _. ⌜ (contents profile (now (file .entry)) ≡ Passed → now (kept .exit) ≡ keptFrom (now (kept .entry)) 0 (orders (now (file .entry)))) ⌝ }
+    ensures { λ _. ⌜ now (kept .exit) ≡ keptFrom (now (kept .entry)) 0 (ordersRead profile (now (file .entry))) ⌝ }
 {
     if !profile_fits(profile) {
         return Judged::Refused(refusals::PROFILE);

@@ -4,7 +4,7 @@ use mathlib.Core.Bool.{true}
 use borrow.Author.Needs.{needs}
 use Rattle.text.proofs.Branches.{told-no, told-yes}
 use Rattle.epe.specs.Profile.{profileFits}
-use Rattle.epe.proofs.Judging.{fields-allowed, profile-refused, refused-not-passed, statement-refused, records-judged, records-kept}
+use Rattle.epe.proofs.Judging.{fields-allowed, profile-refused, profile-none-read, statement-refused, statement-none-read, records-judged, records-read}
 use Rattle.epe.proofs.file.judge_contents.Statement.{statement}
 use Rattle.epe.proofs.file.judge_contents.Tie as tie
 
@@ -17,8 +17,8 @@ profile-fits-requires c κs = search needs
 returns : tie.Need-returns
 returns c =
     let start = c .before .before .before .before .args in
-    let refused = profile-refused (start .profile) (start .file .now) _ (told-no _ _ (c .before .profile-fits .ensures) (c .if1 .taken)) in
-    (refused, λ passed. absurd (refused-not-passed _ _ refused passed))
+    let unfit = told-no _ _ (c .before .profile-fits .ensures) (c .if1 .taken) in
+    (profile-refused (start .profile) (start .file .now) _ unfit, profile-none-read (start .profile) (start .file .now) _ unfit)
 
 body-of-requires : tie.Need-body-of-requires
 body-of-requires c κs = search needs
@@ -42,10 +42,12 @@ returns-2 c =
     let cut = ended .before in
     let fitting = cut .before .before in
     let start = fitting .before .before .before .before .args in
-    let refused =
-    statement-refused (start .profile) (start .file .now) _ _ _ (fits fitting) (cut .body-of .ensures) (ended .line-end .ensures) (stated .before .slice .ensures) _
-    (sym (stated .read-stated .ensures .judged) ∙ c .before .verdict .given .1) in
-    (refused, λ passed. absurd (refused-not-passed _ _ refused passed))
+    let refused = sym (stated .read-stated .ensures .judged) ∙ c .before .verdict .given .1 in (
+      statement-refused (start .profile) (start .file .now) _ _ _ (fits fitting) (cut .body-of .ensures) (ended .line-end .ensures) (stated .before .slice .ensures)
+          _ refused,
+      statement-none-read (start .profile) (start .file .now) _ _ _ (fits fitting) (cut .body-of .ensures) (ended .line-end .ensures) (stated .before .slice .ensures)
+          _ _ refused,
+    )
 
 enum-told : tie.Need-enum-told
 enum-told c = search needs
@@ -72,14 +74,15 @@ returns-3 c =
     let ended = stated .before .before in
     let cut = ended .before in
     let fitting = cut .before .before in
-    let start = fitting .before .before .before .before .args in (
+    let start = fitting .before .before .before .before .args in
+    let passed = sym (stated .read-stated .ensures .judged) ∙ told .enum-told .given .1 in (
       c .judge-tally .ensures
           ∙ records-judged (start .profile) (start .file .now) _ _ _ (fits fitting) (cut .body-of .ensures) (ended .line-end .ensures) (stated .before .slice .ensures)
           (walked .before .before .after-line .ensures) (walked .tally-records .ensures)
-          _ _ (sym (stated .read-stated .ensures .judged) ∙ told .enum-told .given .1)
+          _ _ passed
           (stated .read-stated .ensures .counted) (stated .read-stated .ensures .summed),
-      records-kept (start .profile) (start .file .now) _ _ _ (fits fitting) (cut .body-of .ensures) (ended .line-end .ensures) (stated .before .slice .ensures)
-          (walked .before .before .after-line .ensures) (walked .tally-records .ensures),
+      records-read (start .profile) (start .file .now) _ _ _ (fits fitting) (cut .body-of .ensures) (ended .line-end .ensures) (stated .before .slice .ensures)
+          (walked .before .before .after-line .ensures) (walked .tally-records .ensures) passed,
     )
 
 pub judge-contents-spec : {M : Type 1} → statement M
