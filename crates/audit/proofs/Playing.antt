@@ -14,16 +14,16 @@ use Rattle.model.specs.declared.Deed.the-variants.{Post, Pay, MarkUndelivered, 
 use Rattle.model.specs.declared.Route.{Route}
 use Rattle.model.proofs.SoundParts.{halves}
 use Rattle.book.specs.Does.{Does}
-use Rattle.audit.specs.declared.told.Told.{Told}
+use Rattle.audit.specs.declared.reply.Reply.{Reply}
 use Rattle.audit.specs.Journal.{identIn, numberIn, profileIn, routeIn, moneyIn, firstText, secondText, actIn, callIn, entryFits}
-use Rattle.audit.specs.Replay.{toldOf, Plays}
+use Rattle.audit.specs.Replay.{replyOf, Plays}
 
 -- a call that was made and told, under the name that the entry gives it
-pub plays : {before after : List ℕ} {call same : Call} {answer : Answer} {told : Told} → call ≡ same → Does before call answer after
-    → told ≡ toldOf answer → Plays before same told after
-plays {answer = answer} is does is-told = record { answer = answer; does = rw is at does; is-told = is-told }
+pub plays : {before after : List ℕ} {call same : Call} {answer : Answer} {reply : Reply} → call ≡ same → Does before call answer after
+    → reply ≡ replyOf answer → Plays before same reply after
+plays {answer = answer} is does is-reply = record { answer = answer; does = rw is at does; is-reply = is-reply }
 
-pub plays-same : {before after : List ℕ} {call same : Call} {told : Told} → call ≡ same → Plays before call told after → Plays before same told after
+pub plays-same : {before after : List ℕ} {call same : Call} {reply : Reply} → call ≡ same → Plays before call reply after → Plays before same reply after
 plays-same is played = rw is at played
 
 -- a whole entry has one of the calls

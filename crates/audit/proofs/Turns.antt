@@ -11,10 +11,10 @@ use lib.Seq.{sets-eq, take-at, drop-append-add, drop-drop}
 use Rattle.text.proofs.Branches.{and-left, and-right}
 use Rattle.model.specs.Calls.{Call}
 use Rattle.book.specs.Does.{Does}
-use Rattle.audit.specs.declared.told.Told.{Told}
+use Rattle.audit.specs.declared.reply.Reply.{Reply}
 use Rattle.audit.specs.Journal.{callIn, entryLength, entryFits, entriesFit, callsFrom, countIn, journalFits, callsIn}
 use Rattle.audit.specs.Listed.{Made, Chain, memoryAt, callsOf}
-use Rattle.audit.specs.Replay.{toldOf, toldAll, tellAt, Plays, Replayed, Replayable}
+use Rattle.audit.specs.Replay.{replyOf, allReplies, tellAt, Plays, Replayed, Replayable}
 use Rattle.audit.proofs.Listing.{listed}
 
 -- one more call behind those made
@@ -32,35 +32,35 @@ calls-more : (made : List Made) (one : Made) (left : List Call) → callsOf (mad
 calls-more [] one left = refl
 calls-more (first ∷ later) one left = ap (λ calls. first .call ∷ calls) (calls-more later one left)
 
-told-more : (made : List Made) (one : Made) (behind : List ℕ)
-    → toldAll (made ++ (one ∷ [])) ++ behind
-    ≡ toldAll made ++ (toldOf (one .answer) .status ∷ toldOf (one .answer) .first ∷ toldOf (one .answer) .second ∷ behind)
-told-more [] one behind = refl
-told-more (first ∷ later) one behind =
-    ap (λ told. toldOf (first .answer) .status ∷ toldOf (first .answer) .first ∷ toldOf (first .answer) .second ∷ told) (told-more later one behind)
+reply-more : (made : List Made) (one : Made) (behind : List ℕ)
+    → allReplies (made ++ (one ∷ [])) ++ behind
+    ≡ allReplies made ++ (replyOf (one .answer) .status ∷ replyOf (one .answer) .first ∷ replyOf (one .answer) .second ∷ behind)
+reply-more [] one behind = refl
+reply-more (first ∷ later) one behind =
+    ap (λ reply. replyOf (first .answer) .status ∷ replyOf (first .answer) .first ∷ replyOf (first .answer) .second ∷ reply) (reply-more later one behind)
 
-told-many : (made : List Made) → length (toldAll made) ≡ 3 * length made
-told-many [] = refl
-told-many (first ∷ later) = omega (arith, told-many later)
+reply-many : (made : List Made) → length (allReplies made) ≡ 3 * length made
+reply-many [] = refl
+reply-many (first ∷ later) = omega (arith, reply-many later)
 
 -- three stores, one behind the other
-pub tell-three : (table : List ℕ) (i : ℕ) (told : Told) → i + 3 ≤ length table
-    → set (set (set table i (told .status)) (i + 1) (told .first)) (i + 2) (told .second) ≡ tellAt table i told
-tell-three table i told room =
+pub tell-three : (table : List ℕ) (i : ℕ) (reply : Reply) → i + 3 ≤ length table
+    → set (set (set table i (reply .status)) (i + 1) (reply .first)) (i + 2) (reply .second) ≡ tellAt table i reply
+tell-three table i reply room =
     let second : i + 1 ≡ suc i = omega arith in
     let third : i + 2 ≡ suc (suc i) = omega arith in
-    let three = told .status ∷ told .first ∷ told .second ∷ [] in
+    let three = reply .status ∷ reply .first ∷ reply .second ∷ [] in
     rw (second, third) (sets-eq three table i room ∙ append-assoc (take i table) three (drop (i + 3) table))
 
 -- the table, told one call further
-behind : (told table : List ℕ) (i : ℕ) → length told ≡ i → drop (i + 3) (told ++ drop i table) ≡ drop (i + 3) table
-behind told table i many = rw (← many) (drop-append-add told (drop (length told) table) 3 ∙ drop-drop 3 (length told) table)
+behind : (reply table : List ℕ) (i : ℕ) → length reply ≡ i → drop (i + 3) (reply ++ drop i table) ≡ drop (i + 3) table
+behind reply table i many = rw (← many) (drop-append-add reply (drop (length reply) table) 3 ∙ drop-drop 3 (length reply) table)
 
-tell-next : (told table : List ℕ) (i : ℕ) (three : Told) → length told ≡ i
-    → tellAt (told ++ drop i table) i three ≡ told ++ (three .status ∷ three .first ∷ three .second ∷ drop (i + 3) table)
-tell-next told table i three many = rw (take-at told (drop i table) i many, behind told table i many)
+tell-next : (reply table : List ℕ) (i : ℕ) (three : Reply) → length reply ≡ i
+    → tellAt (reply ++ drop i table) i three ≡ reply ++ (three .status ∷ three .first ∷ three .second ∷ drop (i + 3) table)
+tell-next reply table i three many = rw (take-at reply (drop i table) i many, behind reply table i many)
 
-tell-long : (table : List ℕ) (i : ℕ) (three : Told) → i + 3 ≤ length table → length (tellAt table i three) ≡ length table
+tell-long : (table : List ℕ) (i : ℕ) (three : Reply) → i + 3 ≤ length table → length (tellAt table i three) ≡ length table
 tell-long table i three room = simp (length-append, length-take, length-drop) (omega arith)
 
 -- So far: the calls made, the entries left from a place on, and the table told up to i.
@@ -71,7 +71,7 @@ pub record SoFar (start journal table memory answers : List ℕ) (at i left : �
   pub calls : callsOf made ++ callsFrom left (drop at journal) ≡ callsIn journal
   pub fits : entriesFit left (drop at journal) ≡ true
   pub place : i ≡ 3 * length made
-  pub told : answers ≡ toldAll made ++ drop i table
+  pub reply : answers ≡ allReplies made ++ drop i table
   pub room : i + 3 * left ≤ length table
   pub memory-as-long : length memory ≡ length start
   pub answers-as-long : length answers ≡ length table
@@ -86,7 +86,7 @@ module _ {start journal table : List ℕ} {n : ℕ} (may : Replayable start jour
     calls = rw (may .counted);
     fits = rw (may .counted) (and-right (leb 8 (length journal)) (entriesFit (countIn journal) (drop 8 journal)) (may .encoded));
     place = refl;
-    told = refl;
+    reply = refl;
     room = omega (arith, may .enough);
     memory-as-long = refl;
     answers-as-long = refl;
@@ -104,7 +104,7 @@ module _ {start journal table : List ℕ} {n : ℕ} (may : Replayable start jour
         chain = so-far .chain;
         listed = listed start (so-far .made) (may .empty) (so-far .chain);
         memory = so-far .ends;
-        answers = rw (so-far .place) at (so-far .told);
+        answers = rw (so-far .place) at (so-far .reply);
       }
 
 module _ {start journal table memory answers : List ℕ} {at i : ℕ} where
@@ -117,17 +117,17 @@ module _ {start journal table memory answers : List ℕ} {at i : ℕ} where
   room : {left : ℕ} → SoFar start journal table memory answers at i left → 0 < left → i + 3 ≤ length answers
   room so-far more = omega (arith, so-far .room, so-far .answers-as-long)
 
-  turn : {told : Told} {memory′ : List ℕ} (left : ℕ) → SoFar start journal table memory answers at i left → 0 < left
-      → Plays memory (callIn (drop at journal)) told memory′
-      → SoFar start journal table memory′ (tellAt answers i told) (at + entryLength (drop at journal)) (i + 3) (left - 1)
+  turn : {reply : Reply} {memory′ : List ℕ} (left : ℕ) → SoFar start journal table memory answers at i left → 0 < left
+      → Plays memory (callIn (drop at journal)) reply memory′
+      → SoFar start journal table memory′ (tellAt answers i reply) (at + entryLength (drop at journal)) (i + 3) (left - 1)
   unfolding entriesFit callsFrom
   turn zero so-far more played = absurd (omega arith)
-  turn {told} {memory′} (suc n) so-far more played =
+  turn {reply} {memory′} (suc n) so-far more played =
       let entry = drop at journal in
       let one : Made = record { call = callIn entry; answer = played .answer; memory = memory′ } in
       let less : suc n - 1 ≡ n = omega arith in
       let next : drop (entryLength entry) entry ≡ drop (at + entryLength entry) journal = drop-drop (entryLength entry) at journal in
-      let many : length (toldAll (so-far .made)) ≡ i = told-many (so-far .made) ∙ sym (so-far .place) in
+      let many : length (allReplies (so-far .made)) ≡ i = reply-many (so-far .made) ∙ sym (so-far .place) in
       record {
         made = so-far .made ++ (one ∷ []);
         chain = chain-more start (so-far .made) one (so-far .chain) (rw (so-far .ends) at (played .does));
@@ -135,14 +135,14 @@ module _ {start journal table memory answers : List ℕ} {at i : ℕ} where
         calls = rw less (calls-more (so-far .made) one (callsFrom n (drop (at + entryLength entry) journal)) ∙ rw next at (so-far .calls));
         fits = rw (less, ← next) (and-right (entryFits entry) (entriesFit n (drop (entryLength entry) entry)) (so-far .fits));
         place = omega (arith, so-far .place, length-append (so-far .made) (one ∷ []));
-        told =
-            ap (λ answers. tellAt answers i told) (so-far .told)
-            ∙ tell-next (toldAll (so-far .made)) table i told many
-            ∙ ap (λ (told : Told). toldAll (so-far .made) ++ (told .status ∷ told .first ∷ told .second ∷ drop (i + 3) table)) (played .is-told)
-            ∙ sym (told-more (so-far .made) one (drop (i + 3) table));
+        reply =
+            ap (λ answers. tellAt answers i reply) (so-far .reply)
+            ∙ tell-next (allReplies (so-far .made)) table i reply many
+            ∙ ap (λ (reply : Reply). allReplies (so-far .made) ++ (reply .status ∷ reply .first ∷ reply .second ∷ drop (i + 3) table)) (played .is-reply)
+            ∙ sym (reply-more (so-far .made) one (drop (i + 3) table));
         room = omega (arith, so-far .room);
         memory-as-long = played .does .as-long ∙ so-far .memory-as-long;
-        answers-as-long = tell-long answers i told (room so-far more) ∙ so-far .answers-as-long;
+        answers-as-long = tell-long answers i reply (room so-far more) ∙ so-far .answers-as-long;
       }
 
   module _ {left : ℕ} (so-far : SoFar start journal table memory answers at i left) (more : 0 < left) where
@@ -157,7 +157,7 @@ module _ {start journal table memory answers : List ℕ} {at i : ℕ} where
       pub next-fits : {long : ℕ} → long ≡ entryLength entry → long ≤ length entry → at + long ≤ length journal
       next-fits long-is fits = omega (arith, long-is, fits, ap length entry-is, length-drop at journal)
 
-      pub turns : {told : Told} {memory′ answers′ : List ℕ} {long : ℕ} → Plays memory (callIn entry) told memory′
-          → answers′ ≡ tellAt answers i told → long ≡ entryLength entry
+      pub turns : {reply : Reply} {memory′ answers′ : List ℕ} {long : ℕ} → Plays memory (callIn entry) reply memory′
+          → answers′ ≡ tellAt answers i reply → long ≡ entryLength entry
           → SoFar start journal table memory′ answers′ (at + long) (i + 3) (left - 1)
-      turns played told-is long-is = rw (told-is, long-is, entry-is) (turn left so-far more (rw entry-is at played))
+      turns played reply-is long-is = rw (reply-is, long-is, entry-is) (turn left so-far more (rw entry-is at played))

@@ -10,11 +10,11 @@ use Prim.Native.Nat.{ℕ, zero, suc, _+_, _≤_}
 use lib.ListN.{take, drop}
 use Rattle.money.specs.declared.Money.{Money}
 use Rattle.epe.specs.declared.ident.Ident.{Ident}
-use Rattle.model.specs.Shipment.{when, sum, worth}
+use Rattle.model.specs.Shipment.{onlyIf, sumOver, worth}
 use Rattle.model.specs.Calls.{Call, Intake, Transfer, On, Return, Answer, Refused, isRefusal, waiting}
 use Rattle.model.specs.Book.{Book, find}
 use Rattle.model.specs.Demand.{Event, isFor, leftBy, acceptedFor, leftFor, events, bookAt, ofShipment, heldIn, freeIn, Covered}
-use Rattle.model.specs.Demand.{orderOf, ordersOf, feeOf, leavesBy, below, surplusBy, countIs}
+use Rattle.model.specs.Demand.{orderByIndex, ordersOf, feeOf, leavesBy, below, surplusBy, countIs}
 use Rattle.model.specs.declared.Route.{Route}
 use Rattle.memory.specs.Read.{readBook}
 use Rattle.book.specs.Does.{Does}
@@ -57,12 +57,12 @@ bookInBytes m = bookOf (readBook m)
 abbrev pub leavesBytes : Money → Ident → ℕ → List ℕ → Made → Bool
 leavesBytes money ident j before made =
     isFor ident (made .call)
-    && leavesBy money j (made .call) (made .answer) (orderOf j (find ident (bookInBytes before))) (orderOf j (find ident (bookInBytes (made .memory))))
+    && leavesBy money j (made .call) (made .answer) (orderByIndex j (find ident (bookInBytes before))) (orderByIndex j (find ident (bookInBytes (made .memory))))
 
 abbrev pub timesLeftBytes : Money → Ident → ℕ → List ℕ → List Made → ℕ
 timesLeftBytes money ident j start [] = 0
 timesLeftBytes money ident j start (made ∷ later) =
-    when (leavesBytes money ident j start made) 1 + timesLeftBytes money ident j (made .memory) later
+    onlyIf (leavesBytes money ident j start made) 1 + timesLeftBytes money ident j (made .memory) later
 
 -- One call of the list, from the bytes before it.
 pub record AtMade (before : List ℕ) (made : Made) : Type 0 where
@@ -74,11 +74,11 @@ pub record AtMade (before : List ℕ) (made : Made) : Type 0 where
   pub entire : (ident : Ident) (money : Money) → isFor ident (made .call) ≡ true
       → leftBy money (made .call) (made .answer)
       ≡ below (ordersOf (find ident (bookInBytes before)))
-      (λ j. when (leavesBytes money ident j before made) (worth money (feeOf (find ident (bookInBytes before))) (orderOf j (find ident (bookInBytes before)))))
+      (λ j. onlyIf (leavesBytes money ident j before made) (worth money (feeOf (find ident (bookInBytes before))) (orderByIndex j (find ident (bookInBytes before)))))
       + surplusBy money (made .call) (made .answer)
   -- A return's count, and "nothing of that money waits there after".
   pub counted : (ident : Ident) (route : Route) (money : Money) → made .call ≡ On ident (Return route money)
-      → countIs (below (ordersOf (find ident (bookInBytes before))) (λ j. when (leavesBytes money ident j before made) 1)) (made .answer)
+      → countIs (below (ordersOf (find ident (bookInBytes before))) (λ j. onlyIf (leavesBytes money ident j before made) 1)) (made .answer)
   pub emptied : (ident : Ident) (route : Route) (money : Money) → made .call ≡ On ident (Return route money) → isRefusal (made .answer) ≡ false
       → ofShipment (waiting route money) (find ident (bookInBytes (made .memory))) ≡ 0
 
@@ -107,9 +107,9 @@ pub record Listed (start : List ℕ) (made : List Made) : Type 0 where
   -- left by the answers given between them.
   pub conserves : (p n : ℕ) (ident : Ident) (money : Money)
       → heldIn money ident (bookInBytes (memoryAt start made p)) + freeIn money ident (bookInBytes (memoryAt start made p))
-      + sum (acceptedFor money ident) (madeBetween made p n)
+      + sumOver (acceptedFor money ident) (madeBetween made p n)
       ≡ heldIn money ident (bookInBytes (memoryAt start made (p + n))) + freeIn money ident (bookInBytes (memoryAt start made (p + n)))
-      + sum (leftFor money ident) (madeBetween made p n)
+      + sumOver (leftFor money ident) (madeBetween made p n)
   -- "No free money is ever below zero"
   pub never-below-zero : (p : ℕ) (ident : Ident) (money : Money) → Covered money (find ident (bookInBytes (memoryAt start made p)))
   -- "and no order's money leaves twice or in part."

@@ -11,44 +11,44 @@ use Rattle.memory.specs.Read.{shipmentsIn, soundIn, readBook}
 use Rattle.book.specs.Does.{Does}
 use Rattle.audit.specs.Listed.{Made, Chain, memoryAt, callsOf, Listed}
 use Rattle.audit.specs.Journal.{countIn, journalFits, callsIn}
-use Rattle.audit.specs.declared.told.Told.{Told}
+use Rattle.audit.specs.declared.reply.Reply.{Reply}
 use Rattle.audit.specs.declared.Replaying.{Replaying}
 use Rattle.audit.specs.declared.Replaying.the-variants as replaying
 
 -- 0 done, 1 short, 2 refused; then what the answer says: the number of a refusal; orders and faulty ones; what is missing of K and of O; a fee earned;
 -- an amount paid; a sum returned and the number of its orders.
-abbrev pub doneWith : ℕ → ℕ → Told
+abbrev pub doneWith : ℕ → ℕ → Reply
 doneWith first second = record { status = 0; first = first; second = second }
 
-abbrev pub shortBy : ℕ → ℕ → Told
+abbrev pub shortBy : ℕ → ℕ → Reply
 shortBy amount fee = record { status = 1; first = amount; second = fee }
 
-abbrev pub refusedWith : ℕ → Told
+abbrev pub refusedWith : ℕ → Reply
 refusedWith number = record { status = 2; first = number; second = 0 }
 
-abbrev pub toldOf : Answer → Told
-toldOf (Refused number) = refusedWith number
-toldOf Done = doneWith 0 0
-toldOf (Accepted orders faulty) = doneWith orders faulty
-toldOf IsPaired = doneWith 0 0
-toldOf (Short amount fee) = shortBy amount fee
-toldOf (FeeEarned fee) = doneWith fee 0
-toldOf (AmountPaid amount) = doneWith amount 0
-toldOf (Returned total count) = doneWith total count
+abbrev pub replyOf : Answer → Reply
+replyOf (Refused number) = refusedWith number
+replyOf Done = doneWith 0 0
+replyOf (Accepted orders faulty) = doneWith orders faulty
+replyOf IsPaired = doneWith 0 0
+replyOf (Short amount fee) = shortBy amount fee
+replyOf (FeeEarned fee) = doneWith fee 0
+replyOf (AmountPaid amount) = doneWith amount 0
+replyOf (Returned total count) = doneWith total count
 
-abbrev pub toldAll : List Made → List ℕ
-toldAll [] = []
-toldAll (made ∷ later) = toldOf (made .answer) .status ∷ toldOf (made .answer) .first ∷ toldOf (made .answer) .second ∷ toldAll later
+abbrev pub allReplies : List Made → List ℕ
+allReplies [] = []
+allReplies (made ∷ later) = replyOf (made .answer) .status ∷ replyOf (made .answer) .first ∷ replyOf (made .answer) .second ∷ allReplies later
 
 -- A call was made in the memory, and what it answered is told.
-pub record Plays (before : List ℕ) (call : Call) (told : Told) (after : List ℕ) : Type 0 where
+pub record Plays (before : List ℕ) (call : Call) (reply : Reply) (after : List ℕ) : Type 0 where
   pub answer : Answer
   pub does : Does before call answer after
-  pub is-told : told ≡ toldOf answer
+  pub is-reply : reply ≡ replyOf answer
 
 -- The table with three numbers told from a place on.
-abbrev pub tellAt : List ℕ → ℕ → Told → List ℕ
-tellAt table i told = take i table ++ (told .status ∷ told .first ∷ told .second ∷ drop (i + 3) table)
+abbrev pub tellAt : List ℕ → ℕ → Reply → List ℕ
+tellAt table i reply = take i table ++ (reply .status ∷ reply .first ∷ reply .second ∷ drop (i + 3) table)
 
 -- A journal: its calls, each got the memory as the last one left it and did what its contract says, so that demand 3 holds of them; the table has their
 -- answers in front and is as it was behind.
@@ -58,7 +58,7 @@ pub record Replayed (start journal table after table′ : List ℕ) : Type 0 whe
   pub chain : Chain start made
   pub listed : Listed start made
   pub memory : after ≡ memoryAt start made (length made)
-  pub answers : table′ ≡ toldAll made ++ drop (3 * length made) table
+  pub answers : table′ ≡ allReplies made ++ drop (3 * length made) table
 
 -- Memory that is a sound book without shipments.
 unfoldable pub emptyIn : List ℕ → Bool

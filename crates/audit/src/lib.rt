@@ -1,12 +1,12 @@
 // The audit of a book: demand 3 over any list of calls in lent memory, and a journal of calls replayed.
 mod journal;
 mod play;
-pub mod told;
+pub mod reply;
 
 use crate::journal::does_journal_fit;
 use crate::journal::entry_length;
 use crate::play::play;
-use crate::told::Told;
+use crate::reply::Reply;
 use memory::number::read_eight;
 use memory::shipments;
 use sound::is_sound;
@@ -32,13 +32,13 @@ fn is_empty(memory: &[u8]) -> bool
 }
 
 // Tells an answer in a table, from a place on.
-fn tell(answers: &mut [u64], i: usize, told: Told)
+fn tell(answers: &mut [u64], i: usize, reply: Reply)
     requires { ⌜ i + 3 ≤ length (now answers) ⌝ }
-    ensures { λ _. ⌜ now (answers .exit) ≡ tellAt (now (answers .entry)) i told ⌝ }
+    ensures { λ _. ⌜ now (answers .exit) ≡ tellAt (now (answers .entry)) i reply ⌝ }
 {
-    answers[i] = told.status;
-    answers[i + 1] = told.first;
-    answers[i + 2] = told.second;
+    answers[i] = reply.status;
+    answers[i + 1] = reply.first;
+    answers[i + 2] = reply.second;
 }
 
 // Makes the calls of a journal that fits, in memory that holds an empty book.
@@ -51,8 +51,8 @@ fn replay_all(memory: &mut [u8], journal: &[u8], answers: &mut [u64], n: u64)
     let mut left = n;
     while 0 < left {
         let entry = rest(journal, at);
-        let told = play(memory, entry);
-        tell(answers, i, told);
+        let reply = play(memory, entry);
+        tell(answers, i, reply);
         at += entry_length(entry);
         i += 3;
         left -= 1;

@@ -5,13 +5,13 @@ use crate::journal::money_in;
 use crate::journal::profile_in;
 use crate::journal::route_in;
 use crate::journal::second_text;
-use crate::told::Told;
-use crate::told::tell_acceptance;
-use crate::told::tell_pairing;
-use crate::told::tell_payment;
-use crate::told::tell_posting;
-use crate::told::tell_reply;
-use crate::told::tell_returning;
+use crate::reply::Reply;
+use crate::reply::tell_acceptance;
+use crate::reply::tell_completion;
+use crate::reply::tell_pairing;
+use crate::reply::tell_payment;
+use crate::reply::tell_posting;
+use crate::reply::tell_returning;
 use book::close;
 use book::go_ahead;
 use book::intake;
@@ -33,7 +33,7 @@ ghost use Rattle.audit.specs.Journal.{identIn, numberIn, profileIn, firs
 ghost use Rattle.audit.specs.Replay.{Plays};
 
 // Makes an entry's intake.
-fn play_intake(memory: &mut [u8], entry: &[u8]) -> Told
+fn play_intake(memory: &mut [u8], entry: &[u8]) -> Reply
     requires { ⌜ entryFits (now entry) ≡ true ⌝ }
     ensures { λ r. ⌜ Plays (now (memory .entry)) (Intake (profileIn (now (entry .entry))) (firstText (now (entry .entry))) (secondText (now (entry .entry)))) r (now (memory .exit)) ⌝ }
 {
@@ -46,15 +46,15 @@ fn play_intake(memory: &mut [u8], entry: &[u8]) -> Told
 }
 
 // Makes an entry's transfer.
-fn play_transfer(memory: &mut [u8], entry: &[u8]) -> Told
+fn play_transfer(memory: &mut [u8], entry: &[u8]) -> Reply
     requires { ⌜ entryFits (now entry) ≡ true ⌝ }
     ensures { λ r. ⌜ Plays (now (memory .entry)) (Transfer (firstText (now (entry .entry))) (numberIn (now (entry .entry)))) r (now (memory .exit)) ⌝ }
 {
-    tell_reply(transfer(memory, first_text(entry), read_eight(entry, 21)))
+    tell_completion(transfer(memory, first_text(entry), read_eight(entry, 21)))
 }
 
 // Does what an entry says with an order.
-fn play_on_order(memory: &mut [u8], entry: &[u8], ident: Ident) -> Told
+fn play_on_order(memory: &mut [u8], entry: &[u8], ident: Ident) -> Reply
     requires { ⌜ (101 ≤ length (now entry)) × (ident ≡ identIn (now entry)) × (5 ≤ getD (now entry) 0 0) × (getD (now entry) 0 0 ≤ 8) ⌝ }
     ensures { λ r. ⌜ Plays (now (memory .entry)) (On (identIn (now (entry .entry))) (actIn (now (entry .entry)))) r (now (memory .exit)) ⌝ }
 {
@@ -62,21 +62,21 @@ fn play_on_order(memory: &mut [u8], entry: &[u8], ident: Ident) -> Told
     match entry[0] {
         5 => tell_posting(post(memory, ident, number)),
         6 => tell_payment(pay(memory, ident, number)),
-        7 => tell_reply(mark_undelivered(memory, ident, number)),
-        _ => tell_reply(withdraw(memory, ident, number)),
+        7 => tell_completion(mark_undelivered(memory, ident, number)),
+        _ => tell_completion(withdraw(memory, ident, number)),
     }
 }
 
 // Does what an entry says with a shipment.
-fn play_act(memory: &mut [u8], entry: &[u8]) -> Told
+fn play_act(memory: &mut [u8], entry: &[u8]) -> Reply
     requires { ⌜ (101 ≤ length (now entry)) × (2 ≤ getD (now entry) 0 0) × (getD (now entry) 0 0 ≤ 9) ⌝ }
     ensures { λ r. ⌜ Plays (now (memory .entry)) (On (identIn (now (entry .entry))) (actIn (now (entry .entry)))) r (now (memory .exit)) ⌝ }
 {
     let ident = ident_in(entry);
     match entry[0] {
-        2 => tell_reply(go_ahead(memory, ident)),
+        2 => tell_completion(go_ahead(memory, ident)),
         3 => tell_pairing(pair(memory, ident)),
-        4 => tell_reply(close(memory, ident)),
+        4 => tell_completion(close(memory, ident)),
         9 => {
             let money = money_in(entry);
             tell_returning(money, return_money(memory, ident, route_in(entry), money))
@@ -86,7 +86,7 @@ fn play_act(memory: &mut [u8], entry: &[u8]) -> Told
 }
 
 // Makes the call of an entry.
-pub fn play(memory: &mut [u8], entry: &[u8]) -> Told
+pub fn play(memory: &mut [u8], entry: &[u8]) -> Reply
     requires { ⌜ entryFits (now entry) ≡ true ⌝ }
     ensures { λ r. ⌜ Plays (now (memory .entry)) (callIn (now (entry .entry))) r (now (memory .exit)) ⌝ }
 {

@@ -19,7 +19,7 @@ use Rattle.memory.specs.Enter.{OrderEntered, HeadEntered}
 use Rattle.memory.specs.Read.{rowsFrom, shipmentAt, shipmentsFrom, bookIn}
 use Rattle.memory.proofs.Parts.{number-heads, number-rows}
 use Rattle.book.specs.Place.{RowsStored}
-use Rattle.book.specs.Entering.{rowFor, Fits, ShipmentEntered}
+use Rattle.book.specs.Entering.{keptRow, Fits, ShipmentEntered}
 use Rattle.book.proofs.Storing.{one-more-stored}
 use Rattle.book.proofs.Appending.{appended, flags-alike}
 
@@ -39,8 +39,8 @@ kept-in-range kept n i all within is =
     rw is (omega (arith, range .to-the-cap), range .fault-known)
 
 -- one order more
-pub one-more-entered : (kept : List ℕ) {l m m′ : List ℕ} {k n : ℕ} {order : Order} → RowsStored (rowFor k kept) k n l m → order ≡ orderIn kept n
-    → OrderEntered order (k + n) m m′ → RowsStored (rowFor k kept) k (n + 1) l m′
+pub one-more-entered : (kept : List ℕ) {l m m′ : List ℕ} {k n : ℕ} {order : Order} → RowsStored (keptRow k kept) k n l m → order ≡ orderIn kept n
+    → OrderEntered order (k + n) m m′ → RowsStored (keptRow k kept) k (n + 1) l m′
 one-more-entered kept {l} {m} {m′} {k} {n} rest is one =
     let place : k + n - k ≡ n = omega arith in
     one-more-stored rest (one .row ∙ ap enteredRow (is ∙ ap (orderIn kept) (sym place))) (one .only)
@@ -62,7 +62,7 @@ listed-rows m kept k j (suc n) each =
 
 -- then the head, and the number of shipments
 module _ (m m₁ m₂ : List ℕ) (i k : ℕ) (name : Name) (fee n : ℕ) (kept : List ℕ) (fits : Fits m i k name fee n kept)
-    (stored : RowsStored (rowFor k kept) k n m m₁) (head : HeadEntered name fee n i m₁ m₂) where
+    (stored : RowsStored (keptRow k kept) k n m m₁) (head : HeadEntered name fee n i m₁ m₂) where
   abbrev m′ : List ℕ
   m′ = set m₂ 0 (i + 1)
 

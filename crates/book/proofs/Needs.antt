@@ -10,7 +10,7 @@ use lib.Dec.{leb, ltb}
 use lib.ListN.{getD}
 use Rattle.text.proofs.Branches.{either-way}
 use Rattle.money.specs.declared.Money.the-variants.{K, O}
-use Rattle.model.specs.Shipment.{Shipment, isWaiting, need, sum, anyFaulty}
+use Rattle.model.specs.Shipment.{Shipment, isWaiting, need, sumOver, anyFaulty}
 use Rattle.model.specs.Sound.{rowsSound}
 use Rattle.model.specs.declared.Row.{Row}
 use Rattle.model.specs.declared.Stage.{Stage}
@@ -64,9 +64,9 @@ module _ (m : List ℕ) (i k : ℕ) (sits : Sits m i k) {head : List ℕ} (is-he
   unfolding shipmentIn
   rows-are = ap (rowsFrom m k) count-is
 
-  pub need-in-amounts : {amounts : ℕ} → amounts ≡ sum (λ (row : Row). row .amount .0) (rowsFrom m k n) → amounts ≡ need K s
+  pub need-in-amounts : {amounts : ℕ} → amounts ≡ sumOver (λ (row : Row). row .amount .0) (rowsFrom m k n) → amounts ≡ need K s
   unfolding need
-  need-in-amounts are = are ∙ ap (sum (λ (row : Row). row .amount .0)) rows-are
+  need-in-amounts are = are ∙ ap (sumOver (λ (row : Row). row .amount .0)) rows-are
 
   pub faulty-is : anyFaulty (rowsFrom m k n) ≡ anyFaulty (s .rows)
   faulty-is = ap anyFaulty rows-are

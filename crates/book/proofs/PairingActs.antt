@@ -7,7 +7,7 @@ use Prim.Native.Nat.{ℕ, _+_, _*_, _-_}
 use lib.Dec.{leb, ltb}
 use lib.ListN.{getD, set}
 use Rattle.money.specs.declared.Money.the-variants.{K, O}
-use Rattle.model.specs.Shipment.{Shipment, accepted, isWaiting, need, sum, anyFaulty}
+use Rattle.model.specs.Shipment.{Shipment, accepted, isWaiting, need, sumOver, anyFaulty}
 use Rattle.model.specs.Calls.{Refused, Done, IsPaired, Short, Outcome, leave, choose, goneAhead, paired}
 use Rattle.model.specs.declared.Row.{Row}
 use Rattle.model.specs.declared.Stage.the-variants.{Paired}
@@ -88,7 +88,7 @@ module _ (m : List ℕ) (i k : ℕ) (sits : Sits m i k) {head : List ℕ} (is-he
         faults-at barred = refused-at (ask-yes _ 15 _ _ (waiting-test ∙ held) ∙ ask-no _ 18 _ _ (may-test ∙ barred))
 
         module _ (free : may ≡ true) {amount fee amounts fees k-in o-in : ℕ} (is-amount : amount ≡ amounts - k-in) (is-fee : fee ≡ fees - o-in)
-            (are-amounts : amounts ≡ sum (λ (row : Row). row .amount .0) (rowsFrom m k n)) (are-fees : fees ≡ n * numberAt 4 head 24) (is-k-in : k-in ≡ numberAt 8 head (acceptedAt K)) (is-o-in : o-in ≡ numberAt 8 head (acceptedAt O))
+            (are-amounts : amounts ≡ sumOver (λ (row : Row). row .amount .0) (rowsFrom m k n)) (are-fees : fees ≡ n * numberAt 4 head 24) (is-k-in : k-in ≡ numberAt 8 head (acceptedAt K)) (is-o-in : o-in ≡ numberAt 8 head (acceptedAt O))
             {short : Bool} (is-short : short ≡ (ltb 0 amount || ltb 0 fee)) where
           amount-is : amount ≡ need K s - accepted K s
           amount-is =

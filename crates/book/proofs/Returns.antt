@@ -12,7 +12,7 @@ use lib.Dec.{ltb, eqb}
 use lib.ListN.{getD}
 use Rattle.money.specs.declared.Money.{Money}
 use Rattle.money.specs.declared.Money.the-variants.{K, O}
-use Rattle.model.specs.Shipment.{of, Shipment, isPaired, when, sum, worth}
+use Rattle.model.specs.Shipment.{byMoney, Shipment, isPaired, onlyIf, sumOver, worth}
 use Rattle.model.specs.Calls.{Refused, Returned, leave, withRows, waitsOn, afterReturn, waiting, waitingOrders, isZprWithO, returnedBy}
 use Rattle.model.specs.Sound.{rowSound, rowsSound}
 use Rattle.model.specs.declared.Route.{Route}
@@ -25,8 +25,8 @@ use Rattle.memory.specs.Rows.{rowOf}
 use Rattle.memory.specs.Heads.{stageOf, shipmentIn}
 use Rattle.memory.specs.Read.{rowsFrom, ordersAt, shipmentAt}
 use Rattle.book.specs.Place.{Sits, ActAt}
-use Rattle.book.specs.Waiting.{waitingOf, RowCleared, RowsReturned, Cleared}
-use Rattle.book.specs.declared.route.Waiting.{Waiting}
+use Rattle.book.specs.Waits.{waitsOf, RowCleared, RowsReturned, Cleared}
+use Rattle.book.specs.declared.route.Waits.{Waits}
 use Rattle.book.proofs.Storing.{none-stored, one-more-stored}
 use Rattle.book.proofs.RowLaws.{rows-mapped}
 use Rattle.book.proofs.HeadFields.{orders-are, fee-is, paired-is}
@@ -40,24 +40,24 @@ twice-at-most n (suc (suc zero)) h = omega arith
 twice-at-most n (suc (suc (suc times))) h = absurd (omega arith)
 
 one-more-worth : (money : Money) (waits : Bool) (total n : ℕ)
-    → total * of money 1 2 + n * when waits (of money 1 2) ≡ (total + when waits n) * of money 1 2
+    → total * byMoney money 1 2 + n * onlyIf waits (byMoney money 1 2) ≡ (total + onlyIf waits n) * byMoney money 1 2
 one-more-worth K true total n = omega arith
 one-more-worth K false total n = omega arith
 one-more-worth O true total n = omega arith
 one-more-worth O false total n = omega arith
 
-one-more-order : (money : Money) (waits : Bool) (total : ℕ) → total * of money 1 2 + when waits (of money 1 2) ≡ (total + when waits 1) * of money 1 2
+one-more-order : (money : Money) (waits : Bool) (total : ℕ) → total * byMoney money 1 2 + onlyIf waits (byMoney money 1 2) ≡ (total + onlyIf waits 1) * byMoney money 1 2
 one-more-order K true total = omega arith
 one-more-order K false total = omega arith
 one-more-order O true total = omega arith
 one-more-order O false total = omega arith
 
-counted-once : (money : Money) (n : ℕ) → n * of money 1 2 / of money 1 2 ≡ n
+counted-once : (money : Money) (n : ℕ) → n * byMoney money 1 2 / byMoney money 1 2 ≡ n
 counted-once K n = omega arith
 counted-once O n = omega arith
 
 module _ (m : List ℕ) (f : Row → ℕ) where
-  sum-then : (k n : ℕ) → sum f (rowsFrom m k (suc n)) ≡ sum f (rowsFrom m k n) + f (rowOf (rowBytes m (k + n)))
+  sum-then : (k n : ℕ) → sumOver f (rowsFrom m k (suc n)) ≡ sumOver f (rowsFrom m k n) + f (rowOf (rowBytes m (k + n)))
   unfolding rowsFrom
   sum-then k zero = let here : k + 0 ≡ k = omega arith in rw here (omega arith)
   sum-then k (suc n) =
@@ -65,13 +65,13 @@ module _ (m : List ℕ) (f : Row → ℕ) where
       let rest = sum-then (suc k) n in
       rw next (omega arith)
 
-  sum-more : (k n : ℕ) → sum f (rowsFrom m k n) + f (rowOf (rowBytes m (k + n))) ≡ sum f (rowsFrom m k (n + 1))
+  sum-more : (k n : ℕ) → sumOver f (rowsFrom m k n) + f (rowOf (rowBytes m (k + n))) ≡ sumOver f (rowsFrom m k (n + 1))
   sum-more k n = rw add-one (sym (sum-then k n))
 
 -- rows returned one after the other
-pub record Clearing (route : Route) (money : Money) (fee k n : ℕ) (m m′ : List ℕ) (taken : Waiting) : Type 0 where
-  pub added : taken .sum ≡ waitingOf route money fee (rowsFrom m k n) .sum * of money 1 2
-  pub counted : taken .count ≡ waitingOf route money fee (rowsFrom m k n) .count * of money 1 2
+pub record Clearing (route : Route) (money : Money) (fee k n : ℕ) (m m′ : List ℕ) (taken : Waits) : Type 0 where
+  pub added : taken .sum ≡ waitsOf route money fee (rowsFrom m k n) .sum * byMoney money 1 2
+  pub counted : taken .count ≡ waitsOf route money fee (rowsFrom m k n) .count * byMoney money 1 2
   pub returned : RowsReturned route money k n m m′
   pub still : taken .count ≡ 0 → m′ ≡ m
 
@@ -80,29 +80,29 @@ module _ {route : Route} {money : Money} {fee k : ℕ} where
   unfolding rowsFrom
   none-cleared = record { added = none; counted = none; returned = none-stored; still = λ h. refl }
     where
-      none : 0 ≡ 0 * of money 1 2
+      none : 0 ≡ 0 * byMoney money 1 2
       none = omega arith
 
-  pub one-more-cleared : {n : ℕ} {l m m′ : List ℕ} {before after : Waiting} → Clearing route money fee k n l m before
+  pub one-more-cleared : {n : ℕ} {l m m′ : List ℕ} {before after : Waits} → Clearing route money fee k n l m before
       → RowCleared route money fee (k + n) before m m′ after → Clearing route money fee k (n + 1) l m′ after
   one-more-cleared {n} {l} {m} {m′} {before} {after} rest one =
       let row-is = rest .returned .only 0 .other-rows (k + n) (inr (omega arith)) in
       let row = rowOf (rowBytes l (k + n)) in
       let waits = waitsOn route money row in
-      let took : one .taken ≡ when waits (of money 1 2)
-      = one .row .took ∙ ap (λ bytes. when (waitsOn route money (rowOf bytes)) (of money 1 2)) row-is in
+      let took : one .taken ≡ onlyIf waits (byMoney money 1 2)
+      = one .row .took ∙ ap (λ bytes. onlyIf (waitsOn route money (rowOf bytes)) (byMoney money 1 2)) row-is in
       record {
         added = one .added
             ∙ ap (λ bytes. before .sum + worth money fee (rowOf bytes) * one .taken) row-is
             ∙ ap (λ n. before .sum + worth money fee row * n) took
-            ∙ ap (λ n. n + worth money fee row * when waits (of money 1 2)) (rest .added)
+            ∙ ap (λ n. n + worth money fee row * onlyIf waits (byMoney money 1 2)) (rest .added)
             ∙ one-more-worth money waits _ (worth money fee row)
-            ∙ ap (λ n. n * of money 1 2) (sum-more l (λ row. when (waitsOn route money row) (worth money fee row)) k n);
+            ∙ ap (λ n. n * byMoney money 1 2) (sum-more l (λ row. onlyIf (waitsOn route money row) (worth money fee row)) k n);
         counted = one .counted
             ∙ ap (λ n. before .count + n) took
-            ∙ ap (λ n. n + when waits (of money 1 2)) (rest .counted)
+            ∙ ap (λ n. n + onlyIf waits (byMoney money 1 2)) (rest .counted)
             ∙ one-more-order money waits _
-            ∙ ap (λ n. n * of money 1 2) (sum-more l (λ row. when (waitsOn route money row) 1) k n);
+            ∙ ap (λ n. n * byMoney money 1 2) (sum-more l (λ row. onlyIf (waitsOn route money row) 1) k n);
         returned = one-more-stored (rest .returned)
             (one .row .row ∙ ap (λ bytes. afterReturn route money (rowOf bytes)) row-is) (one .row .only);
         still = λ none.
@@ -110,17 +110,17 @@ module _ {route : Route} {money : Money} {fee k : ℕ} where
             one .row .still (omega arith) ∙ rest .still (omega arith);
       }
 
-  pub all-cleared : {n wait : ℕ} {m m′ : List ℕ} {taken : Waiting} → Clearing route money fee k n m m′ taken → wait ≡ of money 1 2
+  pub all-cleared : {n wait : ℕ} {m m′ : List ℕ} {taken : Waits} → Clearing route money fee k n m m′ taken → wait ≡ byMoney money 1 2
       → Cleared route money fee k n m m′ (record { sum = taken .sum / wait; count = taken .count / wait })
   all-cleared {n} {wait} {m} {m′} {taken} all wait-is =
-      let once : (x y : ℕ) → x ≡ y * of money 1 2 → x / wait ≡ y
-      = λ x y is. ap (λ w. x / w) wait-is ∙ ap (λ x. x / of money 1 2) is ∙ counted-once money y in
+      let once : (x y : ℕ) → x ≡ y * byMoney money 1 2 → x / wait ≡ y
+      = λ x y is. ap (λ w. x / w) wait-is ∙ ap (λ x. x / byMoney money 1 2) is ∙ counted-once money y in
       let sum-is = once (taken .sum) _ (all .added) in
       let count-is = once (taken .count) _ (all .counted) in
       record {
         found = λ t. record { sum = sum-is t; count = count-is t };
         returned = all .returned;
-        still = λ none. all .still (all .counted ∙ ap (λ n. n * of money 1 2) (sym count-is ∙ none) ∙ nothing (of money 1 2));
+        still = λ none. all .still (all .counted ∙ ap (λ n. n * byMoney money 1 2) (sym count-is ∙ none) ∙ nothing (byMoney money 1 2));
       }
     where
       nothing : (n : ℕ) → 0 * n ≡ 0
@@ -128,7 +128,7 @@ module _ {route : Route} {money : Money} {fee k : ℕ} where
 
 -- an order that waits is worth something, so that where nothing waits no order does
 module _ (route : Route) where
-  worthless : (money : Money) (fee : ℕ) (rows : List Row) → of money false (eqb fee 0) ≡ true → waitingOf route money fee rows .sum ≡ 0
+  worthless : (money : Money) (fee : ℕ) (rows : List Row) → byMoney money false (eqb fee 0) ≡ true → waitsOf route money fee rows .sum ≡ 0
   worthless K fee rows h = absurd (false≢true h)
   worthless O fee [] h = refl
   worthless O fee (row ∷ rows) h =
@@ -136,20 +136,20 @@ module _ (route : Route) where
       let here = by (waitsOn route O row) fee (eqb-true fee 0 h) in
       omega arith
     where
-      by : (t : Bool) (n : ℕ) → n ≡ 0 → when t n ≡ 0
+      by : (t : Bool) (n : ℕ) → n ≡ 0 → onlyIf t n ≡ 0
       by true n none = none
       by false n none = refl
 
-  module _ (money : Money) (fee : ℕ) (stage : Stage) (worth-it : of money false (eqb fee 0) ≡ false) where
+  module _ (money : Money) (fee : ℕ) (stage : Stage) (worth-it : byMoney money false (eqb fee 0) ≡ false) where
     least : (row : Row) → rowSound stage row ≡ true → 1 ≤ worth money fee row
     unfolding rowSound
     least row sound = by money worth-it
       where
-        by : (money : Money) → of money false (eqb fee 0) ≡ false → 1 ≤ worth money fee row
+        by : (money : Money) → byMoney money false (eqb fee 0) ≡ false → 1 ≤ worth money fee row
         by K h = leb-true 1 (row .amount .0) (search halves)
         by O h = let some = eqb-false fee 0 h in omega arith
 
-    unwaited : (rows : List Row) → rowsSound stage rows ≡ true → waitingOf route money fee rows .sum ≡ 0 → waitingOf route money fee rows .count ≡ 0
+    unwaited : (rows : List Row) → rowsSound stage rows ≡ true → waitsOf route money fee rows .sum ≡ 0 → waitsOf route money fee rows .count ≡ 0
     unfolding rowsSound
     unwaited [] sound none = refl
     unwaited (row ∷ rows) sound none =
@@ -157,7 +157,7 @@ module _ (route : Route) where
         let here = by (waitsOn route money row) (worth money fee row) (least row (search halves)) (omega arith) in
         omega arith
       where
-        by : (t : Bool) (n : ℕ) → 1 ≤ n → when t n ≡ 0 → when t 1 ≡ 0
+        by : (t : Bool) (n : ℕ) → 1 ≤ n → onlyIf t n ≡ 0 → onlyIf t 1 ≡ 0
         by true n some none = absurd (omega arith)
         by false n some none = refl
 
@@ -197,30 +197,30 @@ module _ (m : List ℕ) (i k : ℕ) {head : List ℕ} (is-head : head ≡ headBy
             ∙ ask-yes _ 22 _ _ (ap not (sym is-barred ∙ free))
             ∙ ask-no _ 23 _ _ (ap (ltb 0) nothing))
 
-        module _ {fee : ℕ} (is-fee : fee ≡ numberAt 4 head 24) {worth-nothing : Bool} (is-worth : worth-nothing ≡ of money false (eqb fee 0)) where
+        module _ {fee : ℕ} (is-fee : fee ≡ numberAt 4 head 24) {worth-nothing : Bool} (is-worth : worth-nothing ≡ byMoney money false (eqb fee 0)) where
           fee-there : fee ≡ s .fee
           fee-there = is-fee ∙ fee-is m i k is-head
 
-          worth-there : of money false (eqb (s .fee) 0) ≡ worth-nothing
-          worth-there = sym (is-worth ∙ ap (λ fee. of money false (eqb fee 0)) fee-there)
+          worth-there : byMoney money false (eqb (s .fee) 0) ≡ worth-nothing
+          worth-there = sym (is-worth ∙ ap (λ fee. byMoney money false (eqb fee 0)) fee-there)
 
           pub worthless-at : worth-nothing ≡ true → ActAt m i k (returnedBy route money) (Refused 23) m
           unfolding waiting
           worthless-at h = nothing-to-return (worthless route money (s .fee) (s .rows) (worth-there ∙ h))
 
           module _ (worth-it : worth-nothing ≡ false) {n : ℕ} (is-count : n ≡ numberAt 2 head 30) (sits : Sits m i k)
-              {m′ : List ℕ} {found : Waiting} (cleared : Cleared route money fee k n m m′ found) where
-            found-is : found ≡ waitingOf route money (s .fee) (s .rows)
+              {m′ : List ℕ} {found : Waits} (cleared : Cleared route money fee k n m m′ found) where
+            found-is : found ≡ waitsOf route money (s .fee) (s .rows)
             unfolding shipmentIn
             found-is = cleared .found ∙ rw (count-is is-count, fee-there)
 
             sum-is : waiting route money s ≡ found .sum
             unfolding waiting
-            sum-is = sym (ap (λ (waiting : Waiting). waiting .sum) found-is)
+            sum-is = sym (ap (λ (waiting : Waits). waiting .sum) found-is)
 
             orders-waiting-are : waitingOrders route money s ≡ found .count
             unfolding waitingOrders
-            orders-waiting-are = sym (ap (λ (waiting : Waiting). waiting .count) found-is)
+            orders-waiting-are = sym (ap (λ (waiting : Waits). waiting .count) found-is)
 
             pub nothing-at : found .sum ≡ 0 → ActAt m i k (returnedBy route money) (Refused 23) m′
             unfolding waiting waitingOrders

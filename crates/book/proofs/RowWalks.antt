@@ -11,7 +11,7 @@ use lib.Dec.{ltb}
 use Rattle.text.specs.Bytes.{between}
 use Rattle.text.proofs.Branches.{and-left, and-right, either-way}
 use Rattle.money.specs.Money.{orderCap}
-use Rattle.model.specs.Shipment.{sum, isFaulty, anyFaulty}
+use Rattle.model.specs.Shipment.{sumOver, isFaulty, anyFaulty}
 use Rattle.model.specs.Sound.{faultInRange, beforePairing, rowSound, rowsSound}
 use Rattle.model.specs.declared.Row.{Row}
 use Rattle.model.specs.declared.Stage.the-variants.{Waiting}
@@ -27,7 +27,7 @@ amountIn row = row .amount .0
 -- The rows from the i-th on are left of the n from the k-th on: their amounts are still to add.
 pub record Adding (m : List ℕ) (k n total i left : ℕ) : Type 0 where
   pub place : i + left ≡ k + n
-  pub amounts : total + sum amountIn (rowsFrom m i left) ≡ sum amountIn (rowsFrom m k n)
+  pub amounts : total + sumOver amountIn (rowsFrom m i left) ≡ sumOver amountIn (rowsFrom m k n)
   pub low : total + left * 2 ^ 32 ≤ n * 2 ^ 32
 
 -- And it is still to look whether any is Faulty.
@@ -68,10 +68,10 @@ module _ {m : List ℕ} {k n : ℕ} where
         → Adding m k n (total + amount) (i + 1) (left - 1)
     adding-on {row} {amount} more row-is amount-is amount-low =
         let there : amount ≡ amountIn (rowOf (rowBytes m i)) = amount-is ∙ ap (λ bytes. amountIn (rowOf bytes)) row-is in
-        record { place = omega arith; amounts = omega (arith, ap (sum amountIn) (rows-on m i left more)); low = omega arith }
+        record { place = omega arith; amounts = omega (arith, ap (sumOver amountIn) (rows-on m i left more)); low = omega arith }
 
-    pub adding-done : left ≤ 0 → total ≡ sum amountIn (rowsFrom m k n)
-    adding-done done = omega (arith, ap (sum amountIn) (rows-done m i left done))
+    pub adding-done : left ≤ 0 → total ≡ sumOver amountIn (rowsFrom m k n)
+    adding-done done = omega (arith, ap (sumOver amountIn) (rows-done m i left done))
 
   module _ {bits i left : ℕ} (going : Looking m k n bits i left) where
     abbrev found : Bool

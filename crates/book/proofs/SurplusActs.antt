@@ -9,7 +9,7 @@ use borrow.Author.Tests.{lt-ltb}
 use lib.Dec.{ltb}
 use lib.ListN.{getD}
 use Rattle.money.specs.declared.Money.{Money}
-use Rattle.model.specs.Shipment.{Shipment, accepted, returned, isWaiting, isPaired, when, need, needOncePaired, free}
+use Rattle.model.specs.Shipment.{Shipment, accepted, returned, isWaiting, isPaired, onlyIf, need, needOncePaired, free}
 use Rattle.model.specs.Calls.{Refused, Returned, surplusReturned}
 use Rattle.model.proofs.SoundParts.{in-order}
 use Rattle.memory.specs.Number.{numberAt, withNumber}
@@ -31,10 +31,10 @@ module _ (m : List ℕ) (i k : ℕ) (sits : Sits m i k) {head : List ℕ} (is-he
     paired-test = is-paired ∙ paired-is m i k is-head
 
     pub none-needed : paired ≡ false → 0 ≡ needOncePaired money s
-    none-needed other = ap (λ t. when t (need money s)) (sym other ∙ paired-test)
+    none-needed other = ap (λ t. onlyIf t (need money s)) (sym other ∙ paired-test)
 
     pub needed : {n : ℕ} → paired ≡ true → n ≡ need money s → n ≡ needOncePaired money s
-    needed held is-need = is-need ∙ ap (λ t. when t (need money s)) (sym held ∙ paired-test)
+    needed held is-need = is-need ∙ ap (λ t. onlyIf t (need money s)) (sym held ∙ paired-test)
 
   module _ (money : Money) {received needed-now : ℕ} (is-received : received ≡ numberAt 8 head (acceptedAt money))
       (is-needed : needed-now ≡ needOncePaired money s) where

@@ -4,8 +4,8 @@ use Rattle.money.specs.declared.Money.the-variants.{K, O}
 use Rattle.model.specs.Calls.{Answer, Refused, Done, Accepted, IsPaired, Short, FeeEarned, AmountPaid, Returned}
 use Rattle.model.specs.declared.Deed.{Deed}
 use Rattle.model.specs.declared.Deed.the-variants.{Post, Pay, MarkUndelivered, Withdraw}
-use Rattle.book.specs.declared.answer.Reply.{Reply}
-use Rattle.book.specs.declared.answer.Reply.the-variants as reply
+use Rattle.book.specs.declared.answer.Completion.{Completion}
+use Rattle.book.specs.declared.answer.Completion.the-variants as completion
 use Rattle.book.specs.declared.answer.Acceptance.{Acceptance}
 use Rattle.book.specs.declared.answer.Acceptance.the-variants as acceptance
 use Rattle.book.specs.declared.answer.Pairing.{Pairing}
@@ -19,9 +19,9 @@ use Rattle.book.specs.declared.answer.Returning.the-variants as returnin
 use Rattle.book.specs.declared.order.Handling.{Handling}
 use Rattle.book.specs.declared.order.Handling.the-variants as handling
 
-abbrev pub replyOf : Reply → Answer
-replyOf reply.Done = Done
-replyOf (reply.Refused number) = Refused number
+abbrev pub completionOf : Completion → Answer
+completionOf completion.Done = Done
+completionOf (completion.Refused number) = Refused number
 
 abbrev pub acceptanceOf : Acceptance → Answer
 acceptanceOf (acceptance.Accepted orders faulty) = Accepted orders faulty

@@ -19,8 +19,8 @@ use Rattle.memory.specs.Read.{shipmentsIn, flagsFrom, bookIn, soundIn}
 use Rattle.book.specs.Does.{Does}
 
 -- The row of the order that a table keeps for it, where the first is row k.
-abbrev pub rowFor : ℕ → List ℕ → ℕ → Row
-rowFor k kept r = enteredRow (orderIn kept (r - k))
+abbrev pub keptRow : ℕ → List ℕ → ℕ → Row
+keptRow k kept r = enteredRow (orderIn kept (r - k))
 
 -- There is room for a shipment as the i-th, its rows from the k-th on, and all that is to be entered is in its form.
 pub record Fits (m : List ℕ) (i k : ℕ) (name : Name) (fee n : ℕ) (kept : List ℕ) : Type 0 where

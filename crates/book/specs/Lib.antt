@@ -2,5 +2,5 @@ pub mod Does
 pub mod NoReturn
 pub mod Answers
 pub mod Place
-pub mod Waiting
+pub mod Waits
 pub mod Entering

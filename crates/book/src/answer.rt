@@ -3,7 +3,7 @@ use money::Amount;
 use money::Fee;
 
 // Done, or the number of the question answered no.
-pub enum Reply {
+pub enum Completion {
     Done,
     Refused(u64),
 }

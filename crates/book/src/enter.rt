@@ -35,7 +35,7 @@ ghost use Rattle.memory.specs.Read.{shipmentsFrom, shipmentsIn, soundIn};
 ghost use Rattle.book.specs.Answers.{acceptanceOf};
 ghost use Rattle.book.specs.Does.{Does};
 ghost use Rattle.book.specs.Place.{RowsStored};
-ghost use Rattle.book.specs.Entering.{rowFor, Fits, ShipmentEntered, Opened, Counted, DoesEnter};
+ghost use Rattle.book.specs.Entering.{keptRow, Fits, ShipmentEntered, Opened, Counted, DoesEnter};
 
 // How many rows n shipments have.
 fn rows_of(memory: &[u8], n: usize) -> usize
@@ -68,7 +68,7 @@ fn is_unknown(memory: &[u8], ident: Ident, n: usize) -> bool
 // Enters the first n orders that a table keeps, in the rows from the k-th on.
 fn enter_orders(memory: &mut [u8], k: usize, n: usize, kept: &[u64])
     requires { ⌜ (k + n ≤ 2_048) × (size ≤ length (now memory)) × (n ≤ length (now kept)) × EachInRange (ordersIn (now kept) 0 n) ⌝ }
-    ensures { λ _. ⌜ RowsStored (rowFor k (now (kept .entry))) k n (now (memory .entry)) (now (memory .exit)) ⌝ }
+    ensures { λ _. ⌜ RowsStored (keptRow k (now (kept .entry))) k n (now (memory .entry)) (now (memory .exit)) ⌝ }
 {
     for done in 0..n {
         enter_order(memory, k + done, order_in(kept, done));

@@ -10,10 +10,10 @@ mod shipment;
 mod surplus;
 
 use crate::answer::Acceptance;
+use crate::answer::Completion;
 use crate::answer::Pairing;
 use crate::answer::Payment;
 use crate::answer::Posting;
-use crate::answer::Reply;
 use crate::answer::Returning;
 use crate::enter::take_file;
 use crate::order::Handling;
@@ -50,21 +50,21 @@ ghost use Prim.Native.Nat.{_≤_};
 ghost use Rattle.money.specs.Money.{sumCap};
 ghost use Rattle.model.specs.Calls.{Intake, GoAhead, Pair, Close, OnOrder, Return, Transfer, On, transferred, acted};
 ghost use Rattle.model.specs.declared.Deed.the-variants.{Post, Pay, MarkUndelivered, Withdraw};
-ghost use Rattle.book.specs.Answers.{replyOf, acceptanceOf, pairingOf, postingOf, paymentOf, returningOf, handlingOf};
+ghost use Rattle.book.specs.Answers.{completionOf, acceptanceOf, pairingOf, postingOf, paymentOf, returningOf, handlingOf};
 ghost use Rattle.memory.specs.Read.{soundIn, readBook};
 ghost use Rattle.book.specs.Does.{Does, MakesEmpty};
 ghost use Rattle.book.specs.NoReturn.{noReturn};
 ghost use Rattle.book.specs.Place.{namedIn, Sits, ActAt, DoesSought};
 
 // Makes an empty book in memory that is long enough, whatever it holds.
-pub fn make_empty(memory: &mut [u8]) -> Reply
-    ensures { λ r. ⌜ MakesEmpty (now (memory .entry)) (replyOf r) (now (memory .exit)) ⌝ }
+pub fn make_empty(memory: &mut [u8]) -> Completion
+    ensures { λ r. ⌜ MakesEmpty (now (memory .entry)) (completionOf r) (now (memory .exit)) ⌝ }
 {
     if memory.len() < SIZE {
-        return Reply::Refused(refusals::UNSOUND);
+        return Completion::Refused(refusals::UNSOUND);
     }
     store_shipments(memory, 0);
-    Reply::Done
+    Completion::Done
 }
 
 // Takes in an order file: it is judged before the first byte of the book is written.
@@ -81,31 +81,31 @@ pub fn intake(memory: &mut [u8], profile: Profile, name: &[u8], file: &[u8]) -> 
 }
 
 // A transfer to the shipment of a name, in a sound book.
-fn transfer_to(memory: &mut [u8], name: Name, money: Money, amount: u64) -> Reply
+fn transfer_to(memory: &mut [u8], name: Name, money: Money, amount: u64) -> Completion
     requires { ⌜ (soundIn (now memory) ≡ true) × (amount ≤ sumCap) ⌝ }
-    ensures { λ r. ⌜ DoesSought (namedIn name) (transferred money amount) (now (memory .entry)) (replyOf r) (now (memory .exit)) ⌝ }
+    ensures { λ r. ⌜ DoesSought (namedIn name) (transferred money amount) (now (memory .entry)) (completionOf r) (now (memory .exit)) ⌝ }
 {
     match find_named(memory, name, shipments(memory)) {
-        Place::Unsound => Reply::Refused(refusals::UNSOUND),
-        Place::Unknown => Reply::Refused(refusals::UNKNOWN),
+        Place::Unsound => Completion::Refused(refusals::UNSOUND),
+        Place::Unknown => Completion::Refused(refusals::UNKNOWN),
         Place::At(i, k) => transfer_at(memory, i, k, money, amount),
     }
 }
 
 // A transfer of K or O, for the shipment that its title names.
-pub fn transfer(memory: &mut [u8], title: &[u8], amount: u64) -> Reply
-    ensures { λ r. ⌜ Does (now (memory .entry)) (Transfer (now (title .entry)) amount) (replyOf r) (now (memory .exit)) ⌝ }
+pub fn transfer(memory: &mut [u8], title: &[u8], amount: u64) -> Completion
+    ensures { λ r. ⌜ Does (now (memory .entry)) (Transfer (now (title .entry)) amount) (completionOf r) (now (memory .exit)) ⌝ }
 {
     if !is_sound(memory) {
-        return Reply::Refused(refusals::UNSOUND);
+        return Completion::Refused(refusals::UNSOUND);
     }
     let read = read_title(title);
     let verdict = read.verdict;
     if !is_passed(verdict) {
-        return Reply::Refused(epe::refusals::TITLE);
+        return Completion::Refused(epe::refusals::TITLE);
     }
     if !is_between(1, Amount::SUM_CAP, amount) {
-        return Reply::Refused(refusals::TRANSFER_AMOUNT);
+        return Completion::Refused(refusals::TRANSFER_AMOUNT);
     }
     let name = read.name;
     let money = read.money;
@@ -113,12 +113,12 @@ pub fn transfer(memory: &mut [u8], title: &[u8], amount: u64) -> Reply
 }
 
 // Go-ahead (OBS): a Waiting shipment with faults may be paired.
-pub fn go_ahead(memory: &mut [u8], ident: Ident) -> Reply
-    ensures { λ r. ⌜ Does (now (memory .entry)) (On ident GoAhead) (replyOf r) (now (memory .exit)) ⌝ }
+pub fn go_ahead(memory: &mut [u8], ident: Ident) -> Completion
+    ensures { λ r. ⌜ Does (now (memory .entry)) (On ident GoAhead) (completionOf r) (now (memory .exit)) ⌝ }
 {
     match place_called(memory, ident) {
-        Place::Unsound => Reply::Refused(refusals::UNSOUND),
-        Place::Unknown => Reply::Refused(refusals::UNKNOWN),
+        Place::Unsound => Completion::Refused(refusals::UNSOUND),
+        Place::Unknown => Completion::Refused(refusals::UNKNOWN),
         Place::At(i, k) => go_ahead_at(memory, i, k),
     }
 }
@@ -135,12 +135,12 @@ pub fn pair(memory: &mut [u8], ident: Ident) -> Pairing
 }
 
 // Close (WYC or ODR): a Waiting shipment is Closed.
-pub fn close(memory: &mut [u8], ident: Ident) -> Reply
-    ensures { λ r. ⌜ Does (now (memory .entry)) (On ident Close) (replyOf r) (now (memory .exit)) ⌝ }
+pub fn close(memory: &mut [u8], ident: Ident) -> Completion
+    ensures { λ r. ⌜ Does (now (memory .entry)) (On ident Close) (completionOf r) (now (memory .exit)) ⌝ }
 {
     match place_called(memory, ident) {
-        Place::Unsound => Reply::Refused(refusals::UNSOUND),
-        Place::Unknown => Reply::Refused(refusals::UNKNOWN),
+        Place::Unsound => Completion::Refused(refusals::UNSOUND),
+        Place::Unknown => Completion::Refused(refusals::UNKNOWN),
         Place::At(i, k) => close_at(memory, i, k),
     }
 }
@@ -177,22 +177,22 @@ pub fn pay(memory: &mut [u8], ident: Ident, number: u64) -> Payment
 }
 
 // Undelivered: a Posted order's amount waits.
-pub fn mark_undelivered(memory: &mut [u8], ident: Ident, number: u64) -> Reply
-    ensures { λ r. ⌜ Does (now (memory .entry)) (On ident (OnOrder MarkUndelivered number)) (replyOf r) (now (memory .exit)) ⌝ }
+pub fn mark_undelivered(memory: &mut [u8], ident: Ident, number: u64) -> Completion
+    ensures { λ r. ⌜ Does (now (memory .entry)) (On ident (OnOrder MarkUndelivered number)) (completionOf r) (now (memory .exit)) ⌝ }
 {
     match handle(memory, ident, Deed::MarkUndelivered, number) {
-        Handling::Handled(_, _) => Reply::Done,
-        Handling::Refused(number) => Reply::Refused(number),
+        Handling::Handled(_, _) => Completion::Done,
+        Handling::Refused(number) => Completion::Refused(number),
     }
 }
 
 // Withdraw: an Open order's amount and fee wait.
-pub fn withdraw(memory: &mut [u8], ident: Ident, number: u64) -> Reply
-    ensures { λ r. ⌜ Does (now (memory .entry)) (On ident (OnOrder Withdraw number)) (replyOf r) (now (memory .exit)) ⌝ }
+pub fn withdraw(memory: &mut [u8], ident: Ident, number: u64) -> Completion
+    ensures { λ r. ⌜ Does (now (memory .entry)) (On ident (OnOrder Withdraw number)) (completionOf r) (now (memory .exit)) ⌝ }
 {
     match handle(memory, ident, Deed::Withdraw, number) {
-        Handling::Handled(_, _) => Reply::Done,
-        Handling::Refused(number) => Reply::Refused(number),
+        Handling::Handled(_, _) => Completion::Done,
+        Handling::Refused(number) => Completion::Refused(number),
     }
 }
 

@@ -19,17 +19,17 @@ ghost use mathlib.Core.Bool.{false, true};
 ghost use Prim.Native.Nat.{_+_, _≤_, _<_, _^_};
 ghost use lib.Dec.{eqb};
 ghost use lib.ListN.{length};
-ghost use Rattle.model.specs.Shipment.{of, worth};
+ghost use Rattle.model.specs.Shipment.{byMoney, worth};
 ghost use Rattle.model.specs.Calls.{Returned, isZprWithO, returnedBy};
 ghost use Rattle.model.specs.declared.Route.{Route};
 ghost use Rattle.memory.specs.Layout.{size};
 ghost use Rattle.memory.specs.Rows.{rowOf, WaitTable, IsWaitTable};
 ghost use Rattle.book.specs.Answers.{returningOf};
 ghost use Rattle.book.specs.Place.{Sits, ActAt};
-ghost use Rattle.book.specs.Waiting.{RowCleared, Cleared};
+ghost use Rattle.book.specs.Waits.{RowCleared, Cleared};
 
 // What waits, and in how many orders.
-pub struct Waiting {
+pub struct Waits {
     pub sum: u64,
     pub count: u64,
 }
@@ -49,11 +49,11 @@ fn worth_of(row: &[u8], money: Money, fee: u64) -> u64
 fn clear_row(
     memory: &mut [u8],
     k: usize,
-    taken: Waiting,
+    taken: Waits,
     money: Money,
     fee: u64,
     table: &[u8],
-) -> Waiting
+) -> Waits
     requires { ⌜ (k < 2_048) × (size ≤ length (now memory)) × (fee < 2 ^ 32) × IsWaitTable (now table) × (taken .sum < 2 ^ 60) × (taken .count < 2 ^ 60) ⌝ }
     ensures { λ r. ⌜ ((route : Route) → WaitTable route money (now (table .entry)) → RowCleared route money fee k taken (now (memory .entry)) (now (memory .exit)) r) × (r .sum < taken .sum + 2 ^ 34) × (r .count ≤ taken .count + 2) ⌝ }
 {
@@ -61,7 +61,7 @@ fn clear_row(
     let took = store_return(memory, k, table);
     let sum = taken.sum + worth * took;
     let count = taken.count + took;
-    Waiting {
+    Waits {
         sum: sum,
         count: count,
     }
@@ -69,19 +69,19 @@ fn clear_row(
 
 // Ends every wait of a money on a route in the n rows from the k-th on, and answers what waited.
 // A row asks no question: it counts a wait by what that adds to the byte of state, and the sums are divided by it at the end.
-fn clear(memory: &mut [u8], k: usize, n: usize, route: Route, money: Money, fee: u64) -> Waiting
+fn clear(memory: &mut [u8], k: usize, n: usize, route: Route, money: Money, fee: u64) -> Waits
     requires { ⌜ (k + n ≤ 2_048) × (size ≤ length (now memory)) × (fee < 2 ^ 32) ⌝ }
     ensures { λ r. ⌜ Cleared route money fee k n (now (memory .entry)) (now (memory .exit)) r ⌝ }
 {
     let table = wait_table(route, money);
-    let mut taken = Waiting { sum: 0, count: 0 };
+    let mut taken = Waits { sum: 0, count: 0 };
     for done in 0..n {
         taken = clear_row(memory, k + done, taken, money, fee, &table);
     }
     let wait = wait_of(money) as u64;
     let sum = taken.sum / wait;
     let count = taken.count / wait;
-    Waiting {
+    Waits {
         sum: sum,
         count: count,
     }
@@ -89,7 +89,7 @@ fn clear(memory: &mut [u8], k: usize, n: usize, route: Route, money: Money, fee:
 
 // Is every order worth nothing in a money? In K none is, in O all are where the fee is 0.
 fn are_worth_nothing(money: Money, fee: u64) -> bool
-    ensures { λ r. ⌜ r ≡ of money false (eqb fee 0) ⌝ }
+    ensures { λ r. ⌜ r ≡ byMoney money false (eqb fee 0) ⌝ }
 {
     match money {
         Money::K => false,
@@ -111,7 +111,7 @@ fn is_zpr_with_o(route: Route, money: Money) -> bool
 
 // Is it the money of fees?
 fn is_o(money: Money) -> bool
-    ensures { λ r. ⌜ r ≡ of money false true ⌝ }
+    ensures { λ r. ⌜ r ≡ byMoney money false true ⌝ }
 {
     match money {
         Money::K => false,

@@ -7,7 +7,7 @@ ghost use mathlib.Core.Path.{_≡_};
 ghost use mathlib.Core.Bool.{true};
 ghost use Prim.Native.Nat.{_+_, _≤_};
 ghost use lib.ListN.{length};
-ghost use Rattle.model.specs.Shipment.{sum, anyFaulty};
+ghost use Rattle.model.specs.Shipment.{sumOver, anyFaulty};
 ghost use Rattle.model.specs.Sound.{rowsSound};
 ghost use Rattle.model.specs.declared.Row.{Row};
 ghost use Rattle.model.specs.declared.Stage.the-variants.{Waiting};
@@ -17,7 +17,7 @@ ghost use Rattle.memory.specs.Read.{rowsFrom};
 // The sum of the amounts of the n rows from the k-th on.
 pub fn amounts_in(memory: &[u8], k: usize, n: usize) -> u64
     requires { ⌜ (k + n ≤ 2_048) × (size ≤ length (now memory)) ⌝ }
-    ensures { λ r. ⌜ r ≡ sum (λ (row : Row). row .amount .0) (rowsFrom (now (memory .entry)) k n) ⌝ }
+    ensures { λ r. ⌜ r ≡ sumOver (λ (row : Row). row .amount .0) (rowsFrom (now (memory .entry)) k n) ⌝ }
 {
     let mut sum = 0;
     let mut i = k;

@@ -1,6 +1,6 @@
 // What a call does to a shipment as a whole: a transfer, a go-ahead, pairing, closing.
+use crate::answer::Completion;
 use crate::answer::Pairing;
-use crate::answer::Reply;
 use crate::refusals;
 use crate::rows::amounts_in;
 use crate::rows::has_faulty_in;
@@ -30,51 +30,51 @@ ghost use Rattle.model.specs.declared.Stage.the-variants.{Waiting};
 ghost use Rattle.memory.specs.Layout.{size};
 ghost use Rattle.memory.specs.Heads.{goAheadIn};
 ghost use Rattle.memory.specs.Read.{rowsFrom};
-ghost use Rattle.book.specs.Answers.{replyOf, pairingOf};
+ghost use Rattle.book.specs.Answers.{completionOf, pairingOf};
 ghost use Rattle.book.specs.Place.{Sits, ActAt};
 
 // Takes a transfer to the shipment at a place.
-pub fn transfer_at(memory: &mut [u8], i: usize, k: usize, money: Money, amount: u64) -> Reply
+pub fn transfer_at(memory: &mut [u8], i: usize, k: usize, money: Money, amount: u64) -> Completion
     requires { ⌜ Sits (now memory) i k × (amount ≤ sumCap) ⌝ }
-    ensures { λ r. ⌜ ActAt (now (memory .entry)) i k (transferred money amount) (replyOf r) (now (memory .exit)) ⌝ }
+    ensures { λ r. ⌜ ActAt (now (memory .entry)) i k (transferred money amount) (completionOf r) (now (memory .exit)) ⌝ }
 {
     let total = accepted(head_bytes(memory, i), money) + amount;
     if Amount::SUM_CAP < total {
-        return Reply::Refused(refusals::TOTAL_ACCEPTED);
+        return Completion::Refused(refusals::TOTAL_ACCEPTED);
     }
     store_accepted(memory, i, money, total);
-    Reply::Done
+    Completion::Done
 }
 
 // Closes the shipment at a place.
-pub fn close_at(memory: &mut [u8], i: usize, k: usize) -> Reply
+pub fn close_at(memory: &mut [u8], i: usize, k: usize) -> Completion
     requires { ⌜ Sits (now memory) i k ⌝ }
-    ensures { λ r. ⌜ ActAt (now (memory .entry)) i k closed (replyOf r) (now (memory .exit)) ⌝ }
+    ensures { λ r. ⌜ ActAt (now (memory .entry)) i k closed (completionOf r) (now (memory .exit)) ⌝ }
 {
     if !is_waiting(head_bytes(memory, i)) {
-        return Reply::Refused(refusals::NOT_WAITING);
+        return Completion::Refused(refusals::NOT_WAITING);
     }
     store_stage(memory, i, Stage::Closed);
-    Reply::Done
+    Completion::Done
 }
 
 // Takes a go-ahead (OBS) for the shipment at a place.
-pub fn go_ahead_at(memory: &mut [u8], i: usize, k: usize) -> Reply
+pub fn go_ahead_at(memory: &mut [u8], i: usize, k: usize) -> Completion
     requires { ⌜ Sits (now memory) i k ⌝ }
-    ensures { λ r. ⌜ ActAt (now (memory .entry)) i k goneAhead (replyOf r) (now (memory .exit)) ⌝ }
+    ensures { λ r. ⌜ ActAt (now (memory .entry)) i k goneAhead (completionOf r) (now (memory .exit)) ⌝ }
 {
     let head = head_bytes(memory, i);
     if !is_waiting(head) {
-        return Reply::Refused(refusals::NOT_WAITING);
+        return Completion::Refused(refusals::NOT_WAITING);
     }
     if !has_faulty_in(memory, k, orders(head) as usize) {
-        return Reply::Refused(refusals::NO_FAULTS);
+        return Completion::Refused(refusals::NO_FAULTS);
     }
     if has_go_ahead(head) {
-        return Reply::Refused(refusals::SECOND_GO_AHEAD);
+        return Completion::Refused(refusals::SECOND_GO_AHEAD);
     }
     store_go_ahead(memory, i);
-    Reply::Done
+    Completion::Done
 }
 
 // Has the shipment of this head and the n rows from the k-th on a go-ahead, or no faults?

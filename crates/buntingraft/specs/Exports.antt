@@ -1,4 +1,4 @@
--- What the exports ensure: the reply is the call's answer in three numbers (`toldOf`), and the memory is as the call's own promise has it (`Does`).
+-- What the exports ensure: the reply is the call's answer in three numbers (`replyOf`), and the memory is as the call's own promise has it (`Does`).
 -- `Plays` says both of a call; making an empty book, a return and a sheet have a record here.
 use mathlib.Core.Path.{_≡_}
 use mathlib.Core.Bool.{Bool, true, false, cond, _&&_}
@@ -15,8 +15,8 @@ use Rattle.model.specs.declared.Route.the-variants.{Zwr, Opr, Zpr, Zzr}
 use Rattle.memory.specs.Read.{readBook}
 use Rattle.book.specs.Does.{MakesEmpty}
 use Rattle.book.specs.NoReturn.{noReturn}
-use Rattle.audit.specs.Replay.{toldOf, doneWith, refusedWith, Plays}
-use Rattle.audit.specs.declared.told.Told.{Told}
+use Rattle.audit.specs.Replay.{replyOf, doneWith, refusedWith, Plays}
+use Rattle.audit.specs.declared.reply.Reply.{Reply}
 use Rattle.sheet.specs.Sheet.{sheetOf}
 use Rattle.sheet.specs.declared.Sheeting.{Sheeting}
 use Rattle.sheet.specs.declared.Sheeting.the-variants.{Filled, Refused}
@@ -29,10 +29,10 @@ abbrev pub profileOf : Terms → Profile
 profileOf terms = record { today = record { 0 = terms .today }; fees = terms .fees; fields = terms .fields }
 
 -- An empty book was made, or not, and the answer is told.
-pub record Makes (before : List ℕ) (told : Told) (after : List ℕ) : Type 0 where
+pub record Makes (before : List ℕ) (reply : Reply) (after : List ℕ) : Type 0 where
   pub answer : Answer
   pub makes : MakesEmpty before answer after
-  pub is-told : told ≡ toldOf answer
+  pub is-reply : reply ≡ replyOf answer
 
 -- The routes are 0 ZWR, 1 OPR, 2 ZPR, 3 ZZR, the moneys 0 K, 1 O.
 unfoldable pub areKnown : ℕ → ℕ → Bool
@@ -45,16 +45,16 @@ unfoldable pub moneyOf : ℕ → Money
 moneyOf n = cond (eqb n 0) K O
 
 -- A return by a route and of a money that there are is made; any other is refused, and nothing changes.
-pub record Returns (before : List ℕ) (ident : Ident) (route money : ℕ) (told : Told) (after : List ℕ) : Type 0 where
-  pub plays : areKnown route money ≡ true → Plays before (On ident (Return (routeOf route) (moneyOf money))) told after
-  pub refused : areKnown route money ≡ false → (told ≡ refusedWith (noReturn ident (readBook before))) × (after ≡ before)
+pub record Returns (before : List ℕ) (ident : Ident) (route money : ℕ) (reply : Reply) (after : List ℕ) : Type 0 where
+  pub plays : areKnown route money ≡ true → Plays before (On ident (Return (routeOf route) (moneyOf money))) reply after
+  pub refused : areKnown route money ≡ false → (reply ≡ refusedWith (noReturn ident (readBook before))) × (after ≡ before)
 
 -- A sheet answers the number of its rows, or a refusal. The table and the totals are as it leaves them.
-unfoldable pub toldSheet : Sheeting → Told
-toldSheet (Filled rows) = doneWith rows 0
-toldSheet (Refused number) = refusedWith number
+unfoldable pub replyToSheet : Sheeting → Reply
+replyToSheet (Filled rows) = doneWith rows 0
+replyToSheet (Refused number) = refusedWith number
 
-pub record Sheets (book : List ℕ) (table : List SheetRow) (totals : Totals) (told : Told) (table′ : List SheetRow) (totals′ : Totals) : Type 0 where
-  pub is-told : told ≡ toldSheet (sheetOf (readBook book) table totals .answer)
+pub record Sheets (book : List ℕ) (table : List SheetRow) (totals : Totals) (reply : Reply) (table′ : List SheetRow) (totals′ : Totals) : Type 0 where
+  pub is-reply : reply ≡ replyToSheet (sheetOf (readBook book) table totals .answer)
   pub rows : table′ ≡ sheetOf (readBook book) table totals .table
   pub sums : totals′ ≡ sheetOf (readBook book) table totals .totals

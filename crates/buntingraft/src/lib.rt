@@ -1,13 +1,13 @@
 // The C ABI of the library: its exports, and nothing else. include/buntingraft.h says what each is for.
-use audit::told::Told;
-use audit::told::done;
-use audit::told::refused;
-use audit::told::tell_acceptance;
-use audit::told::tell_pairing;
-use audit::told::tell_payment;
-use audit::told::tell_posting;
-use audit::told::tell_reply;
-use audit::told::tell_returning;
+use audit::reply::Reply;
+use audit::reply::done;
+use audit::reply::refused;
+use audit::reply::tell_acceptance;
+use audit::reply::tell_completion;
+use audit::reply::tell_pairing;
+use audit::reply::tell_payment;
+use audit::reply::tell_posting;
+use audit::reply::tell_returning;
 use calendar::date::Date;
 use epe::ident::ident_of;
 use epe::profile::Profile;
@@ -23,7 +23,7 @@ ghost use Rattle.model.specs.Calls.{GoAhead, Pair, Close, OnOrder, Intake, Tran
 ghost use Rattle.model.specs.declared.Deed.the-variants.{Post, Pay, MarkUndelivered, Withdraw};
 ghost use Rattle.memory.specs.Layout.{size};
 ghost use Rattle.audit.specs.Replay.{Plays};
-ghost use Rattle.buntingraft.specs.Exports.{profileOf, routeOf, moneyOf, areKnown, toldSheet, Makes, Returns, Sheets};
+ghost use Rattle.buntingraft.specs.Exports.{profileOf, routeOf, moneyOf, areKnown, replyToSheet, Makes, Returns, Sheets};
 
 // The profile of an intake, as C has it.
 #[repr(C)]
@@ -43,10 +43,10 @@ pub extern "C" fn buntingraft_book_bytes() -> u64
 
 // Makes an empty book.
 #[no_mangle]
-pub extern "C" fn buntingraft_make_empty(book: &mut [u8]) -> Told
+pub extern "C" fn buntingraft_make_empty(book: &mut [u8]) -> Reply
     ensures { λ r. ⌜ Makes (now (book .entry)) r (now (book .exit)) ⌝ }
 {
-    tell_reply(book::make_empty(book))
+    tell_completion(book::make_empty(book))
 }
 
 // Takes in an order file.
@@ -56,7 +56,7 @@ pub extern "C" fn buntingraft_intake(
     terms: Terms,
     name: &[u8],
     file: &[u8],
-) -> Told
+) -> Reply
     ensures { λ r. ⌜ Plays (now (book .entry)) (Intake (profileOf terms) (now (name .entry)) (now (file .entry))) r (now (book .exit)) ⌝ }
 {
     let fees = terms.fees;
@@ -70,23 +70,23 @@ pub extern "C" fn buntingraft_intake(
 
 // Takes a transfer.
 #[no_mangle]
-pub extern "C" fn buntingraft_transfer(book: &mut [u8], title: &[u8], amount: u64) -> Told
+pub extern "C" fn buntingraft_transfer(book: &mut [u8], title: &[u8], amount: u64) -> Reply
     ensures { λ r. ⌜ Plays (now (book .entry)) (Transfer (now (title .entry)) amount) r (now (book .exit)) ⌝ }
 {
-    tell_reply(book::transfer(book, title, amount))
+    tell_completion(book::transfer(book, title, amount))
 }
 
 // Takes a go-ahead.
 #[no_mangle]
-pub extern "C" fn buntingraft_go_ahead(book: &mut [u8], id: &[u8]) -> Told
+pub extern "C" fn buntingraft_go_ahead(book: &mut [u8], id: &[u8]) -> Reply
     ensures { λ r. ⌜ Plays (now (book .entry)) (On (identOf (now (id .entry))) GoAhead) r (now (book .exit)) ⌝ }
 {
-    tell_reply(book::go_ahead(book, ident_of(id)))
+    tell_completion(book::go_ahead(book, ident_of(id)))
 }
 
 // Pairs a shipment.
 #[no_mangle]
-pub extern "C" fn buntingraft_pair(book: &mut [u8], id: &[u8]) -> Told
+pub extern "C" fn buntingraft_pair(book: &mut [u8], id: &[u8]) -> Reply
     ensures { λ r. ⌜ Plays (now (book .entry)) (On (identOf (now (id .entry))) Pair) r (now (book .exit)) ⌝ }
 {
     tell_pairing(book::pair(book, ident_of(id)))
@@ -94,15 +94,15 @@ pub extern "C" fn buntingraft_pair(book: &mut [u8], id: &[u8]) -> Told
 
 // Closes a shipment.
 #[no_mangle]
-pub extern "C" fn buntingraft_close(book: &mut [u8], id: &[u8]) -> Told
+pub extern "C" fn buntingraft_close(book: &mut [u8], id: &[u8]) -> Reply
     ensures { λ r. ⌜ Plays (now (book .entry)) (On (identOf (now (id .entry))) Close) r (now (book .exit)) ⌝ }
 {
-    tell_reply(book::close(book, ident_of(id)))
+    tell_completion(book::close(book, ident_of(id)))
 }
 
 // Posts an order.
 #[no_mangle]
-pub extern "C" fn buntingraft_post(book: &mut [u8], id: &[u8], order: u64) -> Told
+pub extern "C" fn buntingraft_post(book: &mut [u8], id: &[u8], order: u64) -> Reply
     ensures { λ r. ⌜ Plays (now (book .entry)) (On (identOf (now (id .entry))) (OnOrder Post order)) r (now (book .exit)) ⌝ }
 {
     tell_posting(book::post(book, ident_of(id), order))
@@ -110,7 +110,7 @@ pub extern "C" fn buntingraft_post(book: &mut [u8], id: &[u8], order: u64) -> To
 
 // Pays an order.
 #[no_mangle]
-pub extern "C" fn buntingraft_pay(book: &mut [u8], id: &[u8], order: u64) -> Told
+pub extern "C" fn buntingraft_pay(book: &mut [u8], id: &[u8], order: u64) -> Reply
     ensures { λ r. ⌜ Plays (now (book .entry)) (On (identOf (now (id .entry))) (OnOrder Pay order)) r (now (book .exit)) ⌝ }
 {
     tell_payment(book::pay(book, ident_of(id), order))
@@ -118,18 +118,18 @@ pub extern "C" fn buntingraft_pay(book: &mut [u8], id: &[u8], order: u64) -> Tol
 
 // Marks an order undelivered.
 #[no_mangle]
-pub extern "C" fn buntingraft_mark_undelivered(book: &mut [u8], id: &[u8], order: u64) -> Told
+pub extern "C" fn buntingraft_mark_undelivered(book: &mut [u8], id: &[u8], order: u64) -> Reply
     ensures { λ r. ⌜ Plays (now (book .entry)) (On (identOf (now (id .entry))) (OnOrder MarkUndelivered order)) r (now (book .exit)) ⌝ }
 {
-    tell_reply(book::mark_undelivered(book, ident_of(id), order))
+    tell_completion(book::mark_undelivered(book, ident_of(id), order))
 }
 
 // Withdraws an order.
 #[no_mangle]
-pub extern "C" fn buntingraft_withdraw(book: &mut [u8], id: &[u8], order: u64) -> Told
+pub extern "C" fn buntingraft_withdraw(book: &mut [u8], id: &[u8], order: u64) -> Reply
     ensures { λ r. ⌜ Plays (now (book .entry)) (On (identOf (now (id .entry))) (OnOrder Withdraw order)) r (now (book .exit)) ⌝ }
 {
-    tell_reply(book::withdraw(book, ident_of(id), order))
+    tell_completion(book::withdraw(book, ident_of(id), order))
 }
 
 // Are the numbers those of a route and of a money?
@@ -160,7 +160,7 @@ fn money_of(n: u64) -> Money
 
 // Returns money by a route.
 #[no_mangle]
-pub extern "C" fn buntingraft_return(book: &mut [u8], id: &[u8], route: u64, money: u64) -> Told
+pub extern "C" fn buntingraft_return(book: &mut [u8], id: &[u8], route: u64, money: u64) -> Reply
     ensures { λ r. ⌜ Returns (now (book .entry)) (identOf (now (id .entry))) route money r (now (book .exit)) ⌝ }
 {
     let ident = ident_of(id);
@@ -175,8 +175,8 @@ pub extern "C" fn buntingraft_return(book: &mut [u8], id: &[u8], route: u64, mon
 }
 
 // What a sheet says, in three numbers.
-fn tell_sheet(sheeting: Sheeting) -> Told
-    ensures { λ r. ⌜ r ≡ toldSheet sheeting ⌝ }
+fn tell_sheet(sheeting: Sheeting) -> Reply
+    ensures { λ r. ⌜ r ≡ replyToSheet sheeting ⌝ }
 {
     match sheeting {
         Sheeting::Filled(rows) => done(rows, 0),
@@ -190,7 +190,7 @@ pub extern "C" fn buntingraft_sheet(
     book: &[u8],
     table: &mut [SheetRow],
     totals: &mut Totals,
-) -> Told
+) -> Reply
     ensures { λ r. ⌜ Sheets (now (book .entry)) (now (table .entry)) (now (totals .entry)) r (now (table .exit)) (now (totals .exit)) ⌝ }
 {
     let sheeting = sheet::sheet(book, table, totals);

@@ -1,10 +1,10 @@
 // Document 01's worked shipment ZS1, run through the calls of the book in lent memory: a line for each call, with what it answers.
 // The number before a call is its line in document 01's table (crates/model/specs/Zs1.antt); line 0 is what comes before it.
 use book::answer::Acceptance;
+use book::answer::Completion;
 use book::answer::Pairing;
 use book::answer::Payment;
 use book::answer::Posting;
-use book::answer::Reply;
 use book::answer::Returning;
 use calendar::date::Date;
 use epe::ident::Ident;
@@ -38,11 +38,11 @@ fn say_refused(number: u64) {
 }
 
 // The line of a call, for each form that an answer has.
-fn say_reply(call: &[u8], reply: Reply) {
+fn say_completion(call: &[u8], completion: Completion) {
     say(call);
-    match reply {
-        Reply::Done => say(b": done\n"),
-        Reply::Refused(number) => say_refused(number),
+    match completion {
+        Completion::Done => say(b": done\n"),
+        Completion::Refused(number) => say_refused(number),
     }
 }
 
@@ -105,11 +105,11 @@ fn say_returning(call: &[u8], returning: Returning) {
 
 // Line 1: the transfers, and a pairing that the faulty order forbids.
 fn run_transfers(memory: &mut [u8], ident: Ident) {
-    say_reply(
+    say_completion(
         b"1. transfer of K 17549",
         book::transfer(memory, b"EPEZZS1-201007-A-0-K", 17549),
     );
-    say_reply(
+    say_completion(
         b"1. transfer of O 1050",
         book::transfer(memory, b"EPEZZS1-201007-A-0-O", 1050),
     );
@@ -118,9 +118,9 @@ fn run_transfers(memory: &mut [u8], ident: Ident) {
 
 // Lines 2 and 3: with the go-ahead it is paired, once nothing is missing.
 fn run_pairing(memory: &mut [u8], ident: Ident) {
-    say_reply(b"2. go-ahead", book::go_ahead(memory, ident));
+    say_completion(b"2. go-ahead", book::go_ahead(memory, ident));
     say_pairing(b"2. pair", book::pair(memory, ident));
-    say_reply(
+    say_completion(
         b"3. transfer of K 101",
         book::transfer(memory, b"EPEZZS1-201007-A-0-K", 101),
     );
@@ -151,7 +151,7 @@ fn run_returns(memory: &mut [u8], ident: Ident) {
 fn run_orders(memory: &mut [u8], ident: Ident) {
     say_posting(b"6. post 1", book::post(memory, ident, 1));
     say_payment(b"6. pay 1", book::pay(memory, ident, 1));
-    say_reply(b"7. withdraw 3", book::withdraw(memory, ident, 3));
+    say_completion(b"7. withdraw 3", book::withdraw(memory, ident, 3));
     say_returning(
         b"7. ZZR K",
         book::return_money(memory, ident, Route::Zzr, Money::K),
@@ -169,7 +169,7 @@ fn run(memory: &mut [u8], name: &[u8], file: &[u8]) {
         fees: [350, 350, 350, 350, 350],
         fields: 19,
     };
-    say_reply(b"0. empty book", book::make_empty(memory));
+    say_completion(b"0. empty book", book::make_empty(memory));
     say_acceptance(b"0. intake", book::intake(memory, profile, name, file));
     let ident = epe::ident::ident_of(b"ZS1");
     run_transfers(memory, ident);

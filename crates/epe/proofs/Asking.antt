@@ -6,16 +6,16 @@ use mathlib.Core.List.{List, [], _∷_, _++_}
 use Prim.Native.Nat.{ℕ, _<_}
 use native.Mathlib.Omega.{arith}
 use Rattle.text.proofs.Branches.{told, told-yes, told-no}
-use Rattle.epe.specs.Questions.{Question, _⇒_, firstNo, isPassed}
+use Rattle.epe.specs.Questions.{Question, _elseNo_, firstNo, isPassed}
 use Rattle.epe.specs.declared.verdict.Verdict.{Verdict}
 use Rattle.epe.specs.declared.verdict.Verdict.the-variants.{Passed, Refused}
 
-pub ask-no : (answer : Bool) (n : ℕ) (qs : List Question) → answer ≡ false → Refused n ≡ firstNo ((answer ⇒ n) ∷ qs)
+pub ask-no : (answer : Bool) (n : ℕ) (qs : List Question) → answer ≡ false → Refused n ≡ firstNo ((answer elseNo n) ∷ qs)
 unfolding firstNo
 ask-no answer n qs h = rw h
 
 pub ask-yes : (answer : Bool) (n : ℕ) (qs : List Question) (verdict : Verdict) → answer ≡ true → verdict ≡ firstNo qs
-    → verdict ≡ firstNo ((answer ⇒ n) ∷ qs)
+    → verdict ≡ firstNo ((answer elseNo n) ∷ qs)
 unfolding firstNo
 ask-yes answer n qs verdict h e = rw h e
 

@@ -4,12 +4,12 @@ use mathlib.Core.Path.{_≡_, refl}
 use mathlib.Core.List.{List, [], _∷_, _++_, map}
 use Prim.Native.Nat.{ℕ}
 use Prim.Native.String.{String}
-use Rattle.text.specs.Bytes.{digit, letter, letterOrDigit, lettersOrDigits, same, holds}
+use Rattle.text.specs.Bytes.{digit, letter, letterOrDigit, lettersOrDigits, same, hasByte}
 use Rattle.text.specs.Quoted.{bytes}
 use Rattle.text.specs.Number.{number, numberAfter, isNumber, valueOf}
 use Rattle.text.specs.Fields.{fields, onto}
 use Rattle.text.specs.Lines.{lines, parted, withoutLastEnd, stray}
-use Rattle.text.specs.Utf8.{ascii, tail, lead2, lead3, lead4, point2, point3, point4, surrogate, range2, range3, range4, row2, row3, row4}
+use Rattle.text.specs.Utf8.{ascii, tailOctet, lead2, lead3, lead4, point2, point3, point4, surrogate, range2, range3, range4, row2, row3, row4}
 use Rattle.text.specs.Utf8.{width, wellFormedAfter, starts, codePoints}
 use Rattle.money.specs.Money.{isAmount, groszeOf}
 use Rattle.money.specs.Text.{textOf, together}
@@ -62,7 +62,7 @@ zs1 = file ("1|ZUS|EPE|1.0|ZS1|ABC123|20201007120000|20201007|A|0|3|175.50" ∷ 
 
 -- names the definitions that the examples compute
 opens : List ℕ → List ℕ → Verdict
-unfolding ascii tail lead2 lead3 lead4 point2 point3 point4 surrogate range2 range3 range4 row2 row3 row4 width wellFormedAfter digit letter letterOrDigit lettersOrDigits same holds number numberAfter isNumber valueOf fields onto lines parted withoutLastEnd stray real leap monthLength firstNo identifier nameQuestions marked fileQuestions fixedQuestions repeatedQuestions openingQuestions opening
+unfolding ascii tailOctet lead2 lead3 lead4 point2 point3 point4 surrogate range2 range3 range4 row2 row3 row4 width wellFormedAfter digit letter letterOrDigit lettersOrDigits same hasByte number numberAfter isNumber valueOf fields onto lines parted withoutLastEnd stray real leap monthLength firstNo identifier nameQuestions marked fileQuestions fixedQuestions repeatedQuestions openingQuestions opening
 opens = opening
 
 holdsOrders : Profile → List ℕ → Verdict

@@ -7,11 +7,11 @@ use native.Mathlib.Omega.{arith}
 use lib.ListN.{length, getD, set, length-set}
 use lib.Seq.{getD-set-same, getD-set-other}
 use Rattle.epe.specs.Accepted.{OrderInRange, EachInRange}
-use Rattle.epe.specs.Kept.{codeOf, orderIn, ordersIn, keptFrom, KeptInOrder}
+use Rattle.epe.specs.Kept.{keptCode, orderIn, ordersIn, keptFrom, KeptInOrder}
 use Rattle.epe.specs.declared.record.Order.{Order}
 
 -- an order comes back from its number
-decoded : (order : Order) (table : List ℕ) (j : ℕ) → OrderInRange order → getD table j 0 ≡ codeOf order → orderIn table j ≡ order
+decoded : (order : Order) (table : List ℕ) (j : ℕ) → OrderInRange order → getD table j 0 ≡ keptCode order → orderIn table j ≡ order
 decoded order table j range e =
     let amount : getD table j 0 / 16 ≡ order .amount .0 = omega (arith, e, range .fault-known) in
     let fault : getD table j 0 % 16 ≡ order .fault = omega (arith, e, range .fault-known) in
@@ -22,17 +22,17 @@ before-kept : (table : List ℕ) (j i : ℕ) (orders : List Order) → i < j →
 unfolding keptFrom
 before-kept table j i [] h = refl
 before-kept table j i (order ∷ orders) h =
-    before-kept (set table j (codeOf order)) (j + 1) i orders (omega arith) ∙ getD-set-other table j i (codeOf order) 0 (λ same. omega arith)
+    before-kept (set table j (keptCode order)) (j + 1) i orders (omega arith) ∙ getD-set-other table j i (keptCode order) 0 (λ same. omega arith)
 
 kept-from : (table : List ℕ) (j : ℕ) (orders : List Order) → EachInRange orders → j + length orders ≤ length table
     → ordersIn (keptFrom table j orders) j (length orders) ≡ orders
 unfolding keptFrom ordersIn
 kept-from table j [] all room = refl
 kept-from table j (order ∷ orders) all room =
-    let stored = set table j (codeOf order) in
+    let stored = set table j (keptCode order) in
     let here =
     decoded order (keptFrom stored (j + 1) orders) j (all .0)
-    (before-kept stored (j + 1) j orders (omega arith) ∙ getD-set-same table j (codeOf order) 0 (omega arith)) in
+    (before-kept stored (j + 1) j orders (omega arith) ∙ getD-set-same table j (keptCode order) 0 (omega arith)) in
     let rest = kept-from stored (j + 1) orders (all .1) (simp length-set (omega arith)) in
     λ t. here t ∷ rest t
 

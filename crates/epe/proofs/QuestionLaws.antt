@@ -8,7 +8,7 @@ use mathlib.Core.List.{List, [], _∷_, _++_}
 use Prim.Native.Nat.{ℕ}
 use native.Mathlib.Omega.{arith}
 use Rattle.text.proofs.Branches.{either-way}
-use Rattle.epe.specs.Questions.{Question, _⇒_, AllYes, firstNo, askedNext, RefusedBy, AcceptedIsAllYes, RefusedIsFirstNo}
+use Rattle.epe.specs.Questions.{Question, _elseNo_, AllYes, firstNo, askedNext, RefusedBy, AcceptedIsAllYes, RefusedIsFirstNo}
 use Rattle.epe.specs.declared.verdict.Verdict.{Verdict}
 use Rattle.epe.specs.declared.verdict.Verdict.the-variants.{Passed, Refused}
 
@@ -68,7 +68,7 @@ unfolding firstNo
 none-asked = record { verdict = refl }
 
 -- one question more
-one-more : (ps : List Question) (t : Bool) (n : ℕ) → askedNext (firstNo ps) t n ≡ firstNo (ps ++ ((t ⇒ n) ∷ []))
+one-more : (ps : List Question) (t : Bool) (n : ℕ) → askedNext (firstNo ps) t n ≡ firstNo (ps ++ ((t elseNo n) ∷ []))
 unfolding firstNo askedNext
 one-more [] t n = refl
 one-more (p ∷ ps) t n =
@@ -76,5 +76,5 @@ one-more (p ∷ ps) t n =
     (λ (said : p .yes? ≡ true). rw said (one-more ps t n))
     (λ (refusing : p .yes? ≡ false). rw refusing)
 
-pub next : (n : ℕ) {ps : List Question} {v w : Verdict} {r t : Bool} → Asked ps v → w ≡ askedNext v r n → r ≡ t → Asked (ps ++ ((t ⇒ n) ∷ [])) w
+pub next : (n : ℕ) {ps : List Question} {v w : Verdict} {r t : Bool} → Asked ps v → w ≡ askedNext v r n → r ≡ t → Asked (ps ++ ((t elseNo n) ∷ [])) w
 next n {ps} {t = t} before e answer = record { verdict = e ∙ rw (before .verdict, answer) (one-more ps t n) }

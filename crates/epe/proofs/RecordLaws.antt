@@ -12,7 +12,7 @@ use Rattle.text.specs.Utf8.{codePoints}
 use Rattle.text.proofs.Branches.{and-left, and-right, told-no, told-yes}
 use Rattle.text.proofs.Utf8Counting.{first-counts, counts-at-most}
 use Rattle.epe.specs.File.{field}
-use Rattle.epe.specs.Questions.{Question, _⇒_, firstNo}
+use Rattle.epe.specs.Questions.{Question, _elseNo_, firstNo}
 use Rattle.epe.specs.Faults.{sized, spaced, unspaced, faultQuestions, faultIn, faultOf}
 use Rattle.epe.specs.Contents.{shaped}
 use Rattle.epe.specs.Tally.{RecordOf}
@@ -58,11 +58,11 @@ unspaced-end (suc n) from line h = absurd (omega arith)
 
 -- A question answered no gives its number; one answered yes leaves the fault to those behind it.
 module _ (yes : Bool) (n : ℕ) (qs : List Question) where
-  pub fault-here : yes ≡ false → n ≡ faultIn (firstNo ((yes ⇒ n) ∷ qs))
+  pub fault-here : yes ≡ false → n ≡ faultIn (firstNo ((yes elseNo n) ∷ qs))
   unfolding faultIn firstNo
   fault-here h = rw h
 
-  pub fault-later : (r : ℕ) → yes ≡ true → r ≡ faultIn (firstNo qs) → r ≡ faultIn (firstNo ((yes ⇒ n) ∷ qs))
+  pub fault-later : (r : ℕ) → yes ≡ true → r ≡ faultIn (firstNo qs) → r ≡ faultIn (firstNo ((yes elseNo n) ∷ qs))
   unfolding firstNo
   fault-later r h e = rw h e
 

@@ -21,7 +21,7 @@ use Rattle.text.proofs.Places.{part-to-end}
 use Rattle.money.proofs.Reading.{order-text-bound}
 use Rattle.epe.specs.File.{text, header, records, field}
 use Rattle.epe.specs.Contents.{shaped, allShaped, amountIn, allPriced, total, orderOf, faultyCount, linesRead}
-use Rattle.epe.specs.Kept.{Keepable, codeOf, keptFrom}
+use Rattle.epe.specs.Kept.{Keepable, keptCode, keptFrom}
 use Rattle.epe.specs.Walk.{linesFrom, lineEnd, nextLine, body}
 use Rattle.epe.specs.Tally.{RecordOf, added, Small, Tallied}
 use Rattle.epe.specs.declared.file.Tally.{Tally}
@@ -148,7 +148,7 @@ module _ (fields : ℕ) (lines left : List (List ℕ)) (line : List ℕ) (tally 
 
   -- a line that is shaped is added, and its order kept
   pub going-on : shaped fields (tally .count + 1) line ≡ true
-      → Going fields lines left (added tally (orderOf line)) before (set kept (tally .count) (codeOf (orderOf line)))
+      → Going fields lines left (added tally (orderOf line)) before (set kept (tally .count) (keptCode (orderOf line)))
   unfolding added allShaped allPriced total faultyCount linesRead keptFrom orderOf
   going-on h =
       let bound = order-text-bound (field 3 line) in
@@ -162,7 +162,7 @@ module _ (fields : ℕ) (lines left : List (List ℕ)) (line : List ℕ) (tally 
         summed = omega (arith, going .summed);
         faults = omega (arith, going .faults);
         keeping = rw h at (going .keeping);
-        as-long = length-set kept (tally .count) (codeOf (orderOf line)) ∙ going .as-long;
+        as-long = length-set kept (tally .count) (keptCode (orderOf line)) ∙ going .as-long;
         few = omega arith;
         little = omega (arith, going .little);
         fewer = omega (arith, going .fewer, one);
@@ -191,7 +191,7 @@ pub record Turn (fields : ℕ) (s : List ℕ) (from at : ℕ) (tally : Tally) (b
   pub misshaped : read .shaped ≡ false
       → (allShaped fields 1 (linesFrom from s) ≡ false) × (kept ≡ keptFrom before 0 (map orderOf (linesRead fields 1 (linesFrom from s))))
   pub on : (tally′ : Tally) (kept′ : List ℕ) (at′ : ℕ) → read .shaped ≡ true → tally′ ≡ added tally (read .order)
-      → kept′ ≡ set kept (tally .count) (codeOf (read .order))
+      → kept′ ≡ set kept (tally .count) (keptCode (read .order))
       → at′ ≡ cond (ltb end (length s)) (end + 2) (length s + 1)
       → Going fields (linesFrom from s) (linesFrom at′ s) tally′ before kept′ × (at < at′)
 

@@ -15,7 +15,7 @@ use Rattle.money.specs.Text.{orderText, sumText}
 use Rattle.calendar.specs.Reading.{dateOfDigits, dateInWindow}
 use Rattle.calendar.specs.declared.date.Date.{Date}
 use Rattle.calendar.specs.Time.{timeOfDay}
-use Rattle.epe.specs.Questions.{Question, _⇒_, firstNo, isPassed}
+use Rattle.epe.specs.Questions.{Question, _elseNo_, firstNo, isPassed}
 use Rattle.epe.specs.Profile.{profileFits}
 use Rattle.epe.specs.File.{header, records, field}
 use Rattle.epe.specs.Faults.{faultOf}
@@ -29,15 +29,15 @@ use Rattle.epe.specs.declared.verdict.Verdict.the-variants.{Passed, Refu
 unfoldable pub dateQuestions : Date → List ℕ → List Question
 dateQuestions today line =
     -- "Field 7 not empty? 102"
-    (ltb 0 (length (field 7 line)) ⇒ 102)
+    (ltb 0 (length (field 7 line)) elseNo 102)
     -- "Field 7 a real date, hour 00-23, minute and second 00-59, from 60 days before to 10 days after today? 103"
-    ∷ (dateInWindow 60 10 today (dateOfDigits (take 8 (field 7 line))) && timeOfDay (drop 8 (field 7 line)) ⇒ 103)
+    ∷ (dateInWindow 60 10 today (dateOfDigits (take 8 (field 7 line))) && timeOfDay (drop 8 (field 7 line)) elseNo 103)
     -- "Field 6 not empty? 120"
-    ∷ (ltb 0 (length (field 6 line)) ⇒ 120)
+    ∷ (ltb 0 (length (field 6 line)) elseNo 120)
     -- "Field 6 six letters or digits? 121"
-    ∷ (eqb (length (field 6 line)) 6 && lettersOrDigits (field 6 line) ⇒ 121)
+    ∷ (eqb (length (field 6 line)) 6 && lettersOrDigits (field 6 line) elseNo 121)
     -- "Field 8 within 30 days of today on either side? 125"
-    ∷ (dateInWindow 30 30 today (dateOfDigits (field 8 line)) ⇒ 125)
+    ∷ (dateInWindow 30 30 today (dateOfDigits (field 8 line)) elseNo 125)
     ∷ []
 
 -- The number of orders and the sum that the header states.
@@ -50,13 +50,13 @@ statedSum line = groszeOf (sumText (field 12 line))
 unfoldable pub statedQuestions : List ℕ → List Question
 statedQuestions line =
     -- "Field 11 is 1 to 6 digits? 126"
-    (isNumber (number 1 6 (field 11 line)) ⇒ 126)
+    (isNumber (number 1 6 (field 11 line)) elseNo 126)
     -- "At least 1? 127"
-    ∷ (leb 1 (statedCount line) ⇒ 127)
+    ∷ (leb 1 (statedCount line) elseNo 127)
     -- "Field 12 reads as a sum? 130"
-    ∷ (isAmount (sumText (field 12 line)) ⇒ 130)
+    ∷ (isAmount (sumText (field 12 line)) elseNo 130)
     -- "Above zero? 131"
-    ∷ (ltb 0 (statedSum line) ⇒ 131)
+    ∷ (ltb 0 (statedSum line) elseNo 131)
     ∷ []
 
 -- One record line, the n-th: "R fields, no stray CR or LF, first field `2`, second 1 to 6 digits whose value counts 1, 2, 3 .."
@@ -85,19 +85,19 @@ total (line ∷ lines) = amountIn line + total lines
 unfoldable pub recordQuestions : ℕ → List ℕ → List (List ℕ) → List Question
 recordQuestions r line lines =
     -- "Every record line has R fields, no stray CR or LF, first field `2`, second 1 to 6 digits whose value counts 1, 2, 3 ..? 901"
-    (allShaped r 1 lines ⇒ 901)
+    (allShaped r 1 lines elseNo 901)
     -- "Every field 3 reads as an amount, above zero? 902"
-    ∷ (allPriced lines ⇒ 902)
+    ∷ (allPriced lines elseNo 902)
     -- "Number of record lines equals field 11? 129"
-    ∷ (eqb (length lines) (statedCount line) ⇒ 129)
+    ∷ (eqb (length lines) (statedCount line) elseNo 129)
     -- "Amounts add up to field 12? 132"
-    ∷ (eqb (total lines) (statedSum line) ⇒ 132)
+    ∷ (eqb (total lines) (statedSum line) elseNo 132)
     ∷ []
 
 -- The questions 102 to 132, in order. 905 is asked here too, so that every profile has an answer.
 unfoldable pub contentsQuestions : Profile → List ℕ → List Question
 contentsQuestions profile file =
-    (profileFits profile ⇒ 905)
+    (profileFits profile elseNo 905)
     ∷ ((dateQuestions (profile .today) (header file) ++ statedQuestions (header file))
     ++ recordQuestions (profile .fields) (header file) (records file))
 

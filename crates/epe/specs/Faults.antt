@@ -8,7 +8,7 @@ use Rattle.text.specs.Bytes.{between, same}
 use Rattle.text.specs.Quoted.{bytes}
 use Rattle.text.specs.Utf8.{codePoints}
 use Rattle.text.specs.Number.{number, isNumber}
-use Rattle.epe.specs.Questions.{Question, _⇒_, firstNo}
+use Rattle.epe.specs.Questions.{Question, _elseNo_, firstNo}
 use Rattle.epe.specs.File.{field}
 use Rattle.epe.specs.declared.verdict.Verdict.{Verdict}
 use Rattle.epe.specs.declared.verdict.Verdict.the-variants.{Passed, Refused}
@@ -51,25 +51,25 @@ unspaced (suc n) from line = not (spaced (field from line)) && unspaced n (from 
 unfoldable pub faultQuestions : List ℕ → List Question
 faultQuestions line =
     -- "1 surname (field 4) not 1 to 31 long"
-    (sized 1 31 (field 4 line) ⇒ 1)
+    (sized 1 31 (field 4 line) elseNo 1)
     -- "2 first name (5) not 1 to 22"
-    ∷ (sized 1 22 (field 5 line) ⇒ 2)
+    ∷ (sized 1 22 (field 5 line) elseNo 2)
     -- "3 post town (6) not 1 to 35"
-    ∷ (sized 1 35 (field 6 line) ⇒ 3)
+    ∷ (sized 1 35 (field 6 line) elseNo 3)
     -- "4 postcode (7) not dd-ddd"
-    ∷ (postcode (field 7 line) ⇒ 4)
+    ∷ (postcode (field 7 line) elseNo 4)
     -- "5 town (8) or street (9) above 35, or town, street and extra (12) all empty"
-    ∷ (placed (field 8 line) (field 9 line) (field 12 line) ⇒ 5)
+    ∷ (placed (field 8 line) (field 9 line) (field 12 line) elseNo 5)
     -- "6 house number (10) above 11, or empty while extra is empty"
-    ∷ (housed (field 10 line) (field 12 line) ⇒ 6)
+    ∷ (housed (field 10 line) (field 12 line) elseNo 6)
     -- "7 extra not empty and not `PR`, nor `SP_` or `PP_` with 1 to 5 digits"
-    ∷ (empty (field 12 line) || extra (field 12 line) ⇒ 7)
+    ∷ (empty (field 12 line) || extra (field 12 line) elseNo 7)
     -- "8 benefit identifier (14) not 1 to 20"
-    ∷ (sized 1 20 (field 14 line) ⇒ 8)
+    ∷ (sized 1 20 (field 14 line) elseNo 8)
     -- "9 period (15) not 1 to 35"
-    ∷ (sized 1 35 (field 15 line) ⇒ 9)
+    ∷ (sized 1 35 (field 15 line) elseNo 9)
     -- "10 one of fields 4 to 19 starts or ends with a space"
-    ∷ (unspaced 16 4 line ⇒ 10)
+    ∷ (unspaced 16 4 line elseNo 10)
     ∷ []
 
 -- The number of the first fault; 0 for an order without one.

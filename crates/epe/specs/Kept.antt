@@ -13,8 +13,8 @@ pub record Keepable (order : Order) : Type 0 where
   pub fault-known : order .fault ≤ 10
 
 -- An order as one number: sixteen times its amount, and its fault.
-abbrev pub codeOf : Order → ℕ
-codeOf order = order .amount .0 * 16 + order .fault
+abbrev pub keptCode : Order → ℕ
+keptCode order = order .amount .0 * 16 + order .fault
 
 -- The order that entry j of a table keeps, and those that n entries from the j-th on keep.
 abbrev pub orderIn : List ℕ → ℕ → Order
@@ -28,7 +28,7 @@ ordersIn table j (suc n) = orderIn table j ∷ ordersIn table (j + 1) n
 -- and the entries before j and behind the last order are as they were.
 unfoldable pub keptFrom : List ℕ → ℕ → List Order → List ℕ
 keptFrom table j [] = table
-keptFrom table j (order ∷ orders) = keptFrom (set table j (codeOf order)) (j + 1) orders
+keptFrom table j (order ∷ orders) = keptFrom (set table j (keptCode order)) (j + 1) orders
 
 -- Where a table has room for all of them, the orders that were kept are there, in their order.
 abbrev pub KeptInOrder : Type 0

@@ -12,7 +12,7 @@ use Rattle.text.specs.Fields.{fields}
 use Rattle.money.specs.declared.Money.{Money}
 use Rattle.money.specs.declared.Money.the-variants.{K, O}
 use Rattle.calendar.specs.Calendar.{real}
-use Rattle.epe.specs.Questions.{Question, _⇒_, firstNo, isPassed}
+use Rattle.epe.specs.Questions.{Question, _elseNo_, firstNo, isPassed}
 use Rattle.epe.specs.Ident.{identifier, identOf, identInForm}
 use Rattle.epe.specs.declared.name.Name.{Name}
 use Rattle.epe.specs.declared.name.Title.{Title}
@@ -33,19 +33,19 @@ nameDate name = 20000000 + valueOf (number 6 6 (namePart 2 name))
 unfoldable pub nameQuestions : List ℕ → List Question
 nameQuestions name =
     -- "Name has exactly three hyphens? 003"
-    (eqb (length (fields 0x2D name)) 4 ⇒ 3)
+    (eqb (length (fields 0x2D name)) 4 elseNo 3)
     -- "Name starts EPE? 007"
-    ∷ (same (take 3 name) (bytes "EPE") ⇒ 7)
+    ∷ (same (take 3 name) (bytes "EPE") elseNo 7)
     -- "Then Z? 010"
-    ∷ (eqb (getD name 3 0) 0x5A ⇒ 10)
+    ∷ (eqb (getD name 3 0) 0x5A elseNo 10)
     -- "Rest of its first part an identifier? 013"
-    ∷ (identifier (nameIdent name) ⇒ 13)
+    ∷ (identifier (nameIdent name) elseNo 13)
     -- "Second part six digits, a real date 20yymmdd? 016"
-    ∷ (isNumber (number 6 6 (namePart 2 name)) && real (nameDate name) ⇒ 16)
+    ∷ (isNumber (number 6 6 (namePart 2 name)) && real (nameDate name) elseNo 16)
     -- "Third part A or B? 019"
-    ∷ (same (namePart 3 name) (bytes "A") || same (namePart 3 name) (bytes "B") ⇒ 19)
+    ∷ (same (namePart 3 name) (bytes "A") || same (namePart 3 name) (bytes "B") elseNo 19)
     -- "Fourth part one digit 0 to 4? 022"
-    ∷ (isNumber (number 1 1 (namePart 4 name)) && leb (valueOf (number 1 1 (namePart 4 name))) 4 ⇒ 22)
+    ∷ (isNumber (number 1 1 (namePart 4 name)) && leb (valueOf (number 1 1 (namePart 4 name))) 4 elseNo 22)
     ∷ []
 
 -- The parts of a name whose questions are answered yes.
@@ -79,7 +79,7 @@ unfoldable pub titleQuestions : List ℕ → List Question
 titleQuestions title =
     (isPassed (firstNo (nameQuestions (titleName title)))
     && (same (titleEnding title) (bytes "-K") || same (titleEnding title) (bytes "-O"))
-    ⇒ 11)
+    elseNo 11)
     ∷ []
 
 -- What a title says: whether it is one, the name and the money.

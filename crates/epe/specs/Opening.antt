@@ -11,7 +11,7 @@ use Rattle.text.specs.Quoted.{bytes}
 use Rattle.text.specs.Utf8.{wellFormed}
 use Rattle.text.specs.Fields.{fields}
 use Rattle.text.specs.Lines.{stray}
-use Rattle.epe.specs.Questions.{Question, _⇒_, firstNo}
+use Rattle.epe.specs.Questions.{Question, _elseNo_, firstNo}
 use Rattle.epe.specs.Name.{namePart, nameIdent, nameQuestions, nameOf}
 use Rattle.epe.specs.File.{marked, text, header, field}
 use Rattle.epe.specs.declared.file.Opening.{Opening}
@@ -20,35 +20,35 @@ use Rattle.epe.specs.declared.verdict.Verdict.{Verdict}
 unfoldable pub fileQuestions : List ℕ → List Question
 fileQuestions file =
     -- "File longer than 0 bytes? 001"
-    (ltb 0 (length file) ⇒ 1)
+    (ltb 0 (length file) elseNo 1)
     -- "Byte mark present, the rest well-formed UTF-8? 034"
-    ∷ (marked file && wellFormed (text file) ⇒ 34)
+    ∷ (marked file && wellFormed (text file) elseNo 34)
     ∷ []
 
 unfoldable pub fixedQuestions : List ℕ → List Question
 fixedQuestions line =
     -- "Header has 12 fields, no stray CR or LF? 004"
-    (eqb (length (fields 0x7C line)) 12 && not (stray line) ⇒ 4)
+    (eqb (length (fields 0x7C line)) 12 && not (stray line) elseNo 4)
     -- "Field 1 is `1`? 005"
-    ∷ (same (field 1 line) (bytes "1") ⇒ 5)
+    ∷ (same (field 1 line) (bytes "1") elseNo 5)
     -- "Field 2 is `ZUS`? 011"
-    ∷ (same (field 2 line) (bytes "ZUS") ⇒ 11)
+    ∷ (same (field 2 line) (bytes "ZUS") elseNo 11)
     -- "Field 3 is `EPE`? 008"
-    ∷ (same (field 3 line) (bytes "EPE") ⇒ 8)
+    ∷ (same (field 3 line) (bytes "EPE") elseNo 8)
     -- "Field 4 is `1.0`? 099"
-    ∷ (same (field 4 line) (bytes "1.0") ⇒ 99)
+    ∷ (same (field 4 line) (bytes "1.0") elseNo 99)
     ∷ []
 
 unfoldable pub repeatedQuestions : List ℕ → List ℕ → List Question
 repeatedQuestions name line =
     -- "Field 5 equals the name's identifier? 014"
-    (same (field 5 line) (nameIdent name) ⇒ 14)
+    (same (field 5 line) (nameIdent name) elseNo 14)
     -- "Field 8 equals `20` + the name's date? 017"
-    ∷ (same (field 8 line) (bytes "20" ++ namePart 2 name) ⇒ 17)
+    ∷ (same (field 8 line) (bytes "20" ++ namePart 2 name) elseNo 17)
     -- "Field 9 as in the name? 020"
-    ∷ (same (field 9 line) (namePart 3 name) ⇒ 20)
+    ∷ (same (field 9 line) (namePart 3 name) elseNo 20)
     -- "Field 10 as in the name? 023"
-    ∷ (same (field 10 line) (namePart 4 name) ⇒ 23)
+    ∷ (same (field 10 line) (namePart 4 name) elseNo 23)
     ∷ []
 
 -- The questions 001 to 023, in order.

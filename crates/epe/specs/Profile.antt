@@ -8,7 +8,7 @@ use lib.ListN.{length}
 use Rattle.text.specs.Bytes.{between}
 use Rattle.money.specs.Money.{orderCap}
 use Rattle.calendar.specs.Calendar.{real}
-use Rattle.epe.specs.Questions.{Question, _⇒_}
+use Rattle.epe.specs.Questions.{Question, _elseNo_}
 use Rattle.epe.specs.declared.profile.Profile.{Profile}
 
 unfoldable pub feesFit : List ℕ → Bool
@@ -22,4 +22,4 @@ profileFits profile =
 
 -- "Profile within the ranges above? 905"
 unfoldable pub profileQuestions : Profile → List Question
-profileQuestions profile = (profileFits profile ⇒ 905) ∷ []
+profileQuestions profile = (profileFits profile elseNo 905) ∷ []

@@ -6,14 +6,14 @@ use Prim.Native.Nat.{ℕ}
 use Rattle.epe.specs.declared.verdict.Verdict.{Verdict}
 use Rattle.epe.specs.declared.verdict.Verdict.the-variants.{Passed, Refused}
 
-infix 20 _⇒_
+infix 20 _elseNo_
 -- A question's answer, and the number that a "no" gives.
 pub record Question : Type 0 where
   pub yes? : Bool
   pub number : ℕ
 
-abbrev pub _⇒_ : Bool → ℕ → Question
-answer ⇒ n = record { yes? = answer; number = n }
+abbrev pub _elseNo_ : Bool → ℕ → Question
+answer elseNo n = record { yes? = answer; number = n }
 
 unfoldable pub firstNo : List Question → Verdict
 firstNo [] = Passed

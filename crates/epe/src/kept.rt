@@ -2,7 +2,7 @@
 ghost use mathlib.Core.Path.{_≡_};
 ghost use Prim.Native.Nat.{_<_};
 ghost use lib.ListN.{length, set};
-ghost use Rattle.epe.specs.Kept.{Keepable, codeOf, orderIn};
+ghost use Rattle.epe.specs.Kept.{Keepable, keptCode, orderIn};
 use crate::record::Order;
 use money::Amount;
 
@@ -12,7 +12,7 @@ const FAULTS: u64 = 16;
 // Keeps an order in entry j, where the table has that entry.
 pub fn keep(kept: &mut [u64], j: u64, order: Order)
     requires { ⌜ Keepable order ⌝ }
-    ensures { λ _. ⌜ now (kept .exit) ≡ set (now (kept .entry)) j (codeOf order) ⌝ }
+    ensures { λ _. ⌜ now (kept .exit) ≡ set (now (kept .entry)) j (keptCode order) ⌝ }
 {
     if kept.len() as u64 <= j {
         return;

@@ -16,7 +16,7 @@ use Rattle.text.proofs.Same.{same-equal}
 use Rattle.calendar.proofs.Computed.{below, each}
 use Rattle.money.specs.declared.Money.{Money}
 use Rattle.money.specs.declared.Money.the-variants.{K, O}
-use Rattle.model.specs.Shipment.{of, when, isFaulty}
+use Rattle.model.specs.Shipment.{byMoney, onlyIf, isFaulty}
 use Rattle.model.specs.Calls.{withState, waitsOn, cleared, afterReturn}
 use Rattle.model.specs.Sound.{faultInRange, beforePairing}
 use Rattle.model.specs.declared.Route.{Route}
@@ -36,9 +36,9 @@ abbrev parts : State → List ℕ
 parts Open = 0 ∷ []
 parts Posted = 1 ∷ []
 parts Paid = 2 ∷ []
-parts (Faulty fault k o) = 3 ∷ fault ∷ when k 1 ∷ when o 1 ∷ []
-parts (Undelivered k) = 4 ∷ when k 1 ∷ []
-parts (Withdrawn k o) = 5 ∷ when k 1 ∷ when o 1 ∷ []
+parts (Faulty fault k o) = 3 ∷ fault ∷ onlyIf k 1 ∷ onlyIf o 1 ∷ []
+parts (Undelivered k) = 4 ∷ onlyIf k 1 ∷ []
+parts (Withdrawn k o) = 5 ∷ onlyIf k 1 ∷ onlyIf o 1 ∷ []
 
 abbrev whole : List ℕ → State
 whole [] = Open
@@ -191,7 +191,7 @@ module _ (route : Route) (money : Money) (table : List ℕ) (is-table : WaitTabl
   pub taken-few : getD table code 0 ≤ 2
   taken-few = rw (is-table .told code byte) (by (codeWaits route money code) money)
     where
-      by : (t : Bool) (money : Money) → when t (of money 1 2) ≤ 2
+      by : (t : Bool) (money : Money) → onlyIf t (byMoney money 1 2) ≤ 2
       by true K = omega arith
       by true O = omega arith
       by false money = omega arith
@@ -199,11 +199,11 @@ module _ (route : Route) (money : Money) (table : List ℕ) (is-table : WaitTabl
   pub taken-within : getD table code 0 ≤ code
   taken-within = rw (is-table .told code byte) (by (codeWaits route money code) refl)
     where
-      least : (money : Money) → codeWaits route money code ≡ true → of money 1 2 ≤ code
+      least : (money : Money) → codeWaits route money code ≡ true → byMoney money 1 2 ≤ code
       least K h = omega (arith, eqb-true (code % 2) 1 (and-right (routeHas route code) (kWaits code) h))
       least O h = omega (arith, eqb-true (code / 2 % 2) 1 (and-right (routeHas route code) (oWaits code) h))
 
-      by : (t : Bool) → codeWaits route money code ≡ t → when t (of money 1 2) ≤ code
+      by : (t : Bool) → codeWaits route money code ≡ t → onlyIf t (byMoney money 1 2) ≤ code
       by true h = least money h
       by false h = omega arith
 
@@ -224,7 +224,7 @@ module _ (route : Route) (money : Money) (table : List ℕ) (is-table : WaitTabl
           row = stored .row there enough ∙ ap (λ x. withState x row) state-then ∙ returned-row route money row;
           only = stored .only there;
           took = is-table .told code byte
-              ∙ ap (λ t. when t (of money 1 2)) (waits-by-code route money code byte ∙ ap (λ c. waitsIn route money (stateOf c)) code-is);
+              ∙ ap (λ t. onlyIf t (byMoney money 1 2)) (waits-by-code route money code byte ∙ ap (λ c. waitsIn route money (stateOf c)) code-is);
           still = λ none.
               ap (λ n. set m (rowAt k + 4) (code - n)) none ∙ ap (set m (rowAt k + 4)) (none-taken code ∙ code-there) ∙ set-getD m (rowAt k + 4) 0;
         }
@@ -233,17 +233,17 @@ module _ (route : Route) (money : Money) (table : List ℕ) (is-table : WaitTabl
         none-taken n = omega arith
 
 -- as code makes it, byte after byte
-pub record ToldBelow (route : Route) (money : Money) (n : ℕ) (table : List ℕ) : Type 0 where
+pub record RepliesBelow (route : Route) (money : Money) (n : ℕ) (table : List ℕ) : Type 0 where
   pub long : length table ≡ 256
   pub within : n ≤ 256
   pub told : (code : ℕ) → code < n → getD table code 0 ≡ waitIn route money code
 
 module _ {route : Route} {money : Money} where
-  pub told-none : {table : List ℕ} → length table ≡ 256 → ToldBelow route money 0 table
+  pub told-none : {table : List ℕ} → length table ≡ 256 → RepliesBelow route money 0 table
   told-none long = record { long = long; within = omega arith; told = λ code below. absurd (omega arith) }
 
-  module _ {n : ℕ} {table : List ℕ} (so-far : ToldBelow route money n table) where
-    pub told-more : {wait : ℕ} → n < 256 → wait ≡ waitIn route money n → ToldBelow route money (n + 1) (set table n wait)
+  module _ {n : ℕ} {table : List ℕ} (so-far : RepliesBelow route money n table) where
+    pub told-more : {wait : ℕ} → n < 256 → wait ≡ waitIn route money n → RepliesBelow route money (n + 1) (set table n wait)
     told-more {wait} more wait-is = record {
       long = length-set table n wait ∙ so-far .long;
       within = omega arith;

@@ -10,7 +10,7 @@ use Rattle.money.specs.declared.Money.{Money}
 use Rattle.money.specs.declared.Money.the-variants.{K, O}
 use Rattle.memory.specs.Number.{numberAt}
 use Rattle.memory.specs.Layout.{size, rowAt, rowBytes, OnlyRow}
-use Rattle.model.specs.Shipment.{of, when, isFaulty, waits, holds}
+use Rattle.model.specs.Shipment.{byMoney, onlyIf, isFaulty, waits, holds}
 use Rattle.model.specs.Calls.{withState, takes, waitsOn, cleared, afterReturn}
 use Rattle.model.specs.Sound.{faultInRange, beforePairing}
 use Rattle.model.specs.declared.Route.{Route}
@@ -85,10 +85,10 @@ routeHas Zpr code = between 4 5 code
 routeHas Zzr code = between 8 11 code
 
 abbrev pub codeWaits : Route → Money → ℕ → Bool
-codeWaits route money code = routeHas route code && of money (kWaits code) (oWaits code)
+codeWaits route money code = routeHas route code && byMoney money (kWaits code) (oWaits code)
 
 abbrev pub waitIn : Route → Money → ℕ → ℕ
-waitIn route money code = when (codeWaits route money code) (of money 1 2)
+waitIn route money code = onlyIf (codeWaits route money code) (byMoney money 1 2)
 
 abbrev pub codeAfter : Route → Money → ℕ → ℕ
 codeAfter route money code = code - waitIn route money code
@@ -108,13 +108,13 @@ pub record IsWaitTable (table : List ℕ) : Type 0 where
 pub record RowReturned (route : Route) (money : Money) (k : ℕ) (m m′ : List ℕ) (taken : ℕ) : Type 0 where
   pub row : rowOf (rowBytes m′ k) ≡ afterReturn route money (rowOf (rowBytes m k))
   pub only : OnlyRow k m m′
-  pub took : taken ≡ when (waitsOn route money (rowOf (rowBytes m k))) (of money 1 2)
+  pub took : taken ≡ onlyIf (waitsOn route money (rowOf (rowBytes m k))) (byMoney money 1 2)
   pub still : taken ≡ 0 → m′ ≡ m
 
 -- What soundness asks of a state, as bits to join over a shipment's rows: 1 where it is Faulty, 2 where only a Paired shipment may have it, 4 where
 -- its fault is out of range.
 abbrev pub classOf : State → ℕ
-classOf state = when (isFaulty state) 1 + (when (not (beforePairing state)) 2 + when (not (faultInRange state)) 4)
+classOf state = onlyIf (isFaulty state) 1 + (onlyIf (not (beforePairing state)) 2 + onlyIf (not (faultInRange state)) 4)
 
 -- What a function gives at n places from one on, as a table.
 abbrev pub listed : (ℕ → ℕ) → ℕ → ℕ → List ℕ
@@ -127,7 +127,7 @@ classTable = listed (λ code. classOf (stateOf code)) 0 256
 
 -- Which moneys an order in a state holds in a Paired shipment, as one number: 1 for K, and 2 more for O.
 abbrev pub holdingOf : State → ℕ
-holdingOf state = when (holds K state) 1 + when (holds O state) 2
+holdingOf state = onlyIf (holds K state) 1 + onlyIf (holds O state) 2
 
 -- That of the state that each byte says, from 0 to 52. No byte from 52 on says a state, so that 52 tells of them all.
 unfoldable pub holdingTable : List ℕ

@@ -11,7 +11,7 @@ ghost use mathlib.Core.Path.{_≡_};
 ghost use Prim.Native.Nat.{_+_, _*_, _-_, _/_, _%_, _≤_, _<_, _^_};
 ghost use lib.ListN.{length};
 ghost use Rattle.money.specs.declared.Money.{Money};
-ghost use Rattle.model.specs.Shipment.{of};
+ghost use Rattle.model.specs.Shipment.{byMoney};
 ghost use Rattle.model.specs.declared.Route.{Route};
 ghost use Rattle.memory.specs.Number.{numberAt};
 ghost use Rattle.memory.specs.Layout.{size, rowBytes};
@@ -264,7 +264,7 @@ fn route_has(route: Route, code: u8) -> bool
 
 // Does the byte say that a money waits?
 fn money_waits(money: Money, code: u8) -> bool
-    ensures { λ r. ⌜ r ≡ of money (kWaits code) (oWaits code) ⌝ }
+    ensures { λ r. ⌜ r ≡ byMoney money (kWaits code) (oWaits code) ⌝ }
 {
     match money {
         Money::K => k_waits(code),
@@ -281,7 +281,7 @@ fn code_waits(route: Route, money: Money, code: u8) -> bool
 
 // What the wait of a money adds to a byte of state.
 pub fn wait_of(money: Money) -> u8
-    ensures { λ r. ⌜ (r ≡ of money 1 2) × (1 ≤ r) × (r ≤ 2) ⌝ }
+    ensures { λ r. ⌜ (r ≡ byMoney money 1 2) × (1 ≤ r) × (r ≤ 2) ⌝ }
 {
     match money {
         Money::K => 1,

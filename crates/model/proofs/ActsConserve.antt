@@ -13,7 +13,7 @@ use Rattle.money.specs.declared.Money.{Money}
 use Rattle.money.specs.declared.Money.the-variants.{K, O}
 use Rattle.epe.specs.Name.{titleOf}
 use Rattle.epe.specs.declared.ident.Ident.{Ident}
-use Rattle.model.specs.Shipment.{of, Shipment, accepted, returned, isWaiting, isPaired, when, sum, waits, worth, need}
+use Rattle.model.specs.Shipment.{byMoney, Shipment, accepted, returned, isWaiting, isPaired, onlyIf, sumOver, waits, worth, need}
 use Rattle.model.specs.Shipment.{needOncePaired, free, holds, held}
 use Rattle.model.specs.Calls.{Act, GoAhead, Pair, Close, OnOrder, Return, Call, Transfer, On}
 use Rattle.model.specs.Calls.{Answer, Done, IsPaired, Short, Returned, isRefusal, Outcome, leave, ask}
@@ -33,19 +33,19 @@ use Rattle.model.specs.declared.State.{State}
 use Rattle.model.specs.declared.State.the-variants.{Open, Posted, Paid, Faulty, Undelivered, Withdrawn}
 use Rattle.model.proofs.Asking.{not-both, ask-either, choose-either}
 use Rattle.model.proofs.Sums.{sum-set, sum-moved, sum-map}
-use Rattle.model.proofs.Shipments.{when-true, when-false, waiting-unpaired, amountOf, same-need, same-need-once, both-covered}
+use Rattle.model.proofs.Shipments.{only-if-true, only-if-false, waiting-unpaired, amountOf, same-need, same-need-once, both-covered}
 use Rattle.model.proofs.Shipments.{stateFor, fitting-state, in-range}
 use Rattle.model.proofs.SoundParts.{halves, InOrder}
 
 -- What an order holds in a Paired shipment.
 abbrev pub heldBy : Money → ℕ → Row → ℕ
-heldBy money fee row = when (holds money (row .state)) (worth money fee row)
+heldBy money fee row = onlyIf (holds money (row .state)) (worth money fee row)
 
 -- What conservation needs of a shipment: its transfers cover what is taken from them; before pairing every order still holds its whole worth, so
 -- that pairing moves just the need; and no surplus was returned while it waits.
 pub record Balanced (s : Shipment) : Type 0 where
   pub covered : (money : Money) → needOncePaired money s + returned money s ≤ accepted money s
-  pub whole : isPaired (s .stage) ≡ false → (money : Money) → sum (heldBy money (s .fee)) (s .rows) ≡ need money s
+  pub whole : isPaired (s .stage) ≡ false → (money : Money) → sumOver (heldBy money (s .fee)) (s .rows) ≡ need money s
   pub unreturned : isWaiting (s .stage) ≡ true → (money : Money) → returned money s ≡ 0
 
 -- a sound shipment is balanced: before pairing its orders are Open, or Faulty with both moneys waiting
@@ -66,10 +66,10 @@ module _ (stage : Stage) (fee : ℕ) (unpaired : isPaired stage ≡ false) where
   unfolding rowSound
   row-whole money row h =
       let before : (isPaired stage || beforePairing (row .state)) ≡ true = search halves in
-      when-true (holds money (row .state)) (worth money fee row) (unpaired-holds (row .state) (rw unpaired at before) money)
+      only-if-true (holds money (row .state)) (worth money fee row) (unpaired-holds (row .state) (rw unpaired at before) money)
 
   rows-whole : (money : Money) (rows : List Row) → rowsSound stage rows ≡ true
-      → sum (heldBy money fee) rows ≡ of money (sum amountOf rows) (length rows * fee)
+      → sumOver (heldBy money fee) rows ≡ byMoney money (sumOver amountOf rows) (length rows * fee)
   unfolding rowsSound
   rows-whole K [] h = refl
   rows-whole O [] h = sym (zero-mul fee)
@@ -84,7 +84,7 @@ balanced s h = record {
   unreturned = λ waiting money. h .moneys money .unreturned waiting;
 }
   where
-    whole : isPaired (s .stage) ≡ false → (money : Money) → sum (heldBy money (s .fee)) (s .rows) ≡ need money s
+    whole : isPaired (s .stage) ≡ false → (money : Money) → sumOver (heldBy money (s .fee)) (s .rows) ≡ need money s
     whole unpaired K = rows-whole (s .stage) (s .fee) unpaired K (s .rows) (h .rows-sound)
     whole unpaired O = rows-whole (s .stage) (s .fee) unpaired O (s .rows) (h .rows-sound)
 
@@ -104,14 +104,14 @@ asked call s t number next = ask-either (Fair call s) t number s next (λ n. rec
 -- a transfer, into either money, moves that money's free money only
 module _ (s : Shipment) (b : Balanced s) (n : ℕ) where
   transfer-conserves : (other money : Money)
-      → held money s + free money s + when (isMoney money other) n ≡ held money (withAccepted other n s) + free money (withAccepted other n s) + 0
+      → held money s + free money s + onlyIf (isMoney money other) n ≡ held money (withAccepted other n s) + free money (withAccepted other n s) + 0
   unfolding held free need
   transfer-conserves K K = omega (arith, b .covered K)
   transfer-conserves K O = omega (arith, b .covered O)
   transfer-conserves O K = omega (arith, b .covered K)
   transfer-conserves O O = omega (arith, b .covered O)
 
-  transfer-grows : (other money : Money) → accepted money s + when (isMoney money other) n ≡ accepted money (withAccepted other n s)
+  transfer-grows : (other money : Money) → accepted money s + onlyIf (isMoney money other) n ≡ accepted money (withAccepted other n s)
   transfer-grows K K = refl
   transfer-grows K O = refl
   transfer-grows O K = refl
@@ -153,11 +153,11 @@ module _ (ident : Ident) (s : Shipment) (b : Balanced s) where
     unpaired = waiting-unpaired (s .stage) waits
 
     no-need : (money : Money) → needOncePaired money s ≡ 0
-    no-need money = when-false (isPaired (s .stage)) (need money s) unpaired
+    no-need money = only-if-false (isPaired (s .stage)) (need money s) unpaired
 
     none-held : (money : Money) → held money s ≡ 0
     unfolding held
-    none-held money = when-false (isPaired (s .stage)) (sum (heldBy money (s .fee)) (s .rows)) unpaired
+    none-held money = only-if-false (isPaired (s .stage)) (sumOver (heldBy money (s .fee)) (s .rows)) unpaired
 
     close-conserves : (money : Money) → held money s + free money s + 0 ≡ held money (withStage Closed s) + free money (withStage Closed s) + 0
     unfolding held free
@@ -205,8 +205,8 @@ module _ (ident : Ident) (s : Shipment) (b : Balanced s) where
 module _ (call : Call) (s : Shipment) (b : Balanced s) (is-paired : isPaired (s .stage) ≡ true) (rows : List Row) (answer : Answer) where
   module _
       (counts : length rows ≡ length (s .rows))
-      (sums : sum amountOf rows ≡ sum amountOf (s .rows))
-      (moved : (money : Money) → sum (heldBy money (s .fee)) rows + leftBy money call answer ≡ sum (heldBy money (s .fee)) (s .rows))
+      (sums : sumOver amountOf rows ≡ sumOver amountOf (s .rows))
+      (moved : (money : Money) → sumOver (heldBy money (s .fee)) rows + leftBy money call answer ≡ sumOver (heldBy money (s .fee)) (s .rows))
       (none-in : (money : Money) → acceptedBy money call answer ≡ 0)
       (taken : isRefusal answer ≡ false) where
     rows-need : (money : Money) → needOncePaired money (withRows rows s) ≡ needOncePaired money s
@@ -221,8 +221,8 @@ module _ (call : Call) (s : Shipment) (b : Balanced s) (is-paired : isPaired (s 
           rows-need money,
           moved money,
           none-in money,
-          when-true (isPaired (s .stage)) (sum (heldBy money (s .fee)) rows) is-paired,
-          when-true (isPaired (s .stage)) (sum (heldBy money (s .fee)) (s .rows)) is-paired,
+          only-if-true (isPaired (s .stage)) (sumOver (heldBy money (s .fee)) rows) is-paired,
+          only-if-true (isPaired (s .stage)) (sumOver (heldBy money (s .fee)) (s .rows)) is-paired,
         )
 
     rows-fair : Fair call s (leave answer (withRows rows s))
@@ -267,8 +267,8 @@ module _ (ident : Ident) (deed : Deed) (number : ℕ) (s : Shipment) (b : Balanc
 
   module _ (is-paired : isPaired (s .stage) ≡ true) (there : number - 1 < length (s .rows)) (fitting : fits deed (order .state) ≡ true) where
     deed-held : (money : Money)
-        → sum (heldBy money (s .fee)) (set (s .rows) (number - 1) after) + leftBy money (On ident (OnOrder deed number)) (says deed (s .fee) order)
-        ≡ sum (heldBy money (s .fee)) (s .rows)
+        → sumOver (heldBy money (s .fee)) (set (s .rows) (number - 1) after) + leftBy money (On ident (OnOrder deed number)) (says deed (s .fee) order)
+        ≡ sumOver (heldBy money (s .fee)) (s .rows)
     deed-held money =
         omega (
           arith,
@@ -298,7 +298,7 @@ abbrev afterIf : Bool → Money → Row → Row
 afterIf t money row = cond t (withState (cleared money (row .state)) row) row
 
 back-same : (t : Bool) (money : Money) (fee : ℕ) (amount : Amount) (state : State)
-    → heldBy money fee (afterIf (t && waits money state) money (rowOf amount state)) + when (t && waits money state) (worth money fee (rowOf amount state))
+    → heldBy money fee (afterIf (t && waits money state) money (rowOf amount state)) + onlyIf (t && waits money state) (worth money fee (rowOf amount state))
     ≡ heldBy money fee (rowOf amount state)
 back-same false money fee amount state = omega arith
 back-same true money fee amount Open = omega arith
@@ -339,29 +339,29 @@ back-amount false money row = refl
 
 module _ (route : Route) (s : Shipment) where
   returned-same : (money : Money)
-      → sum (heldBy money (s .fee)) (map (afterReturn route money) (s .rows)) + waiting route money s ≡ sum (heldBy money (s .fee)) (s .rows)
+      → sumOver (heldBy money (s .fee)) (map (afterReturn route money) (s .rows)) + waiting route money s ≡ sumOver (heldBy money (s .fee)) (s .rows)
   unfolding waiting
   returned-same money =
-      sum-moved (heldBy money (s .fee)) (λ row. when (waitsOn route money row) (worth money (s .fee) row)) (heldBy money (s .fee)) (afterReturn route money)
+      sum-moved (heldBy money (s .fee)) (λ row. onlyIf (waitsOn route money row) (worth money (s .fee) row)) (heldBy money (s .fee)) (afterReturn route money)
       (λ row. back-same (takes route (row .state)) money (s .fee) (row .amount) (row .state))
       (s .rows)
 
   returned-other : (money : Money)
-      → sum (heldBy (theOther money) (s .fee)) (map (afterReturn route money) (s .rows)) ≡ sum (heldBy (theOther money) (s .fee)) (s .rows)
+      → sumOver (heldBy (theOther money) (s .fee)) (map (afterReturn route money) (s .rows)) ≡ sumOver (heldBy (theOther money) (s .fee)) (s .rows)
   returned-other money =
       sum-map (heldBy (theOther money) (s .fee)) (heldBy (theOther money) (s .fee)) (afterReturn route money)
       (λ row. back-other (waitsOn route money row) money (s .fee) (row .amount) (row .state))
       (s .rows)
 
   returned-held : (other money : Money)
-      → sum (heldBy money (s .fee)) (map (afterReturn route other) (s .rows)) + when (isMoney money other) (waiting route other s)
-      ≡ sum (heldBy money (s .fee)) (s .rows)
+      → sumOver (heldBy money (s .fee)) (map (afterReturn route other) (s .rows)) + onlyIf (isMoney money other) (waiting route other s)
+      ≡ sumOver (heldBy money (s .fee)) (s .rows)
   returned-held K K = returned-same K
   returned-held O O = returned-same O
   returned-held K O = omega (arith, returned-other K)
   returned-held O K = omega (arith, returned-other O)
 
-  returned-amounts : (money : Money) → sum amountOf (map (afterReturn route money) (s .rows)) ≡ sum amountOf (s .rows)
+  returned-amounts : (money : Money) → sumOver amountOf (map (afterReturn route money) (s .rows)) ≡ sumOver amountOf (s .rows)
   returned-amounts money = sum-map amountOf amountOf (afterReturn route money) (λ row. back-amount (waitsOn route money row) money row) (s .rows)
 
 module _ (ident : Ident) (route : Route) (money : Money) (s : Shipment) (b : Balanced s) where
@@ -383,7 +383,7 @@ module _ (ident : Ident) (route : Route) (money : Money) (s : Shipment) (b : Bal
 module _ (ident : Ident) (s : Shipment) (b : Balanced s) where
   surplus-conserves : (other money : Money)
       → held money s + free money s + 0
-      ≡ held money (withReturned other (free other s) s) + free money (withReturned other (free other s) s) + when (isMoney money other) (free other s)
+      ≡ held money (withReturned other (free other s) s) + free money (withReturned other (free other s) s) + onlyIf (isMoney money other) (free other s)
   unfolding held free need
   surplus-conserves K K = omega (arith, b .covered K)
   surplus-conserves O O = omega (arith, b .covered O)

@@ -13,7 +13,7 @@ use Rattle.text.proofs.Branches.{cond-either}
 use Rattle.money.specs.Money.{sumCap}
 use Rattle.money.specs.declared.Money.{Money}
 use Rattle.money.specs.declared.Money.the-variants.{K, O}
-use Rattle.model.specs.Shipment.{Shipment, accepted, returned, isWaiting, isPaired, when, sum, isFaulty, need, needOncePaired, free, anyFaulty}
+use Rattle.model.specs.Shipment.{Shipment, accepted, returned, isWaiting, isPaired, onlyIf, sumOver, isFaulty, need, needOncePaired, free, anyFaulty}
 use Rattle.model.specs.Calls.{Act, GoAhead, Pair, Close, OnOrder, Return}
 use Rattle.model.specs.Calls.{Answer, Refused, Done, IsPaired, Outcome, leave, ask}
 use Rattle.model.specs.Calls.{withStage, withGoAhead, withAccepted, withReturned, withRows, withState}
@@ -172,7 +172,7 @@ module _ (s : Shipment) (h : InOrder s) where
 
   -- a stage after Waiting, in which what is needed is covered
   module _ (stage : Stage) (waiting : isWaiting (s .stage) ≡ true) (over : isWaiting stage ≡ false) where
-    stage-money : (money : Money) → when (isPaired stage) (need money s) ≤ accepted money s → MoneyInOrder money (withStage stage s)
+    stage-money : (money : Money) → onlyIf (isPaired stage) (need money s) ≤ accepted money s → MoneyInOrder money (withStage stage s)
     stage-money money e =
         let m = h .moneys money in
         record {
@@ -183,7 +183,7 @@ module _ (s : Shipment) (h : InOrder s) where
         }
 
     stage-kept : (answer : Answer) → (isPaired stage ≡ true → anyFaulty (s .rows) ≡ true → s .goAhead ≡ true)
-        → ((money : Money) → when (isPaired stage) (need money s) ≤ accepted money s)
+        → ((money : Money) → onlyIf (isPaired stage) (need money s) ≤ accepted money s)
         → Kept s (leave answer (withStage stage s))
     stage-kept answer go-ahead covers =
         let unpaired = waiting-unpaired (s .stage) waiting in
@@ -202,7 +202,7 @@ module _ (s : Shipment) (h : InOrder s) where
         }
 
   -- new rows of a Paired shipment, as many and with the same amounts
-  module _ (rows : List Row) (count : length rows ≡ length (s .rows)) (sums : sum amountOf rows ≡ sum amountOf (s .rows)) where
+  module _ (rows : List Row) (count : length rows ≡ length (s .rows)) (sums : sumOver amountOf rows ≡ sumOver amountOf (s .rows)) where
     rows-money : (money : Money) → MoneyInOrder money (withRows rows s)
     rows-money money =
         let m = h .moneys money in

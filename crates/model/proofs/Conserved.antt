@@ -11,11 +11,11 @@ use lib.Seq.{take-add}
 use Rattle.text.proofs.Branches.{cond-either}
 use Rattle.money.specs.declared.Money.{Money}
 use Rattle.epe.specs.declared.ident.Ident.{Ident}
-use Rattle.model.specs.Shipment.{sum}
+use Rattle.model.specs.Shipment.{sumOver}
 use Rattle.model.specs.Calls.{Call}
 use Rattle.model.specs.Book.{Book, find, isCalled, step}
 use Rattle.model.specs.Sound.{sound}
-use Rattle.model.specs.Demand.{Event, run, events, bookAt, between, acceptedFor, leftFor, heldIn, freeIn, acceptedIn, Covered, AcceptedAsAnswered}
+use Rattle.model.specs.Demand.{Event, run, events, bookAt, eventsBetween, acceptedFor, leftFor, heldIn, freeIn, acceptedIn, Covered, AcceptedAsAnswered}
 use Rattle.model.proofs.StaysSound.{stays-sound, always-sound}
 use Rattle.model.proofs.StepsConserve.{BookKept, book-kept, step-fair}
 
@@ -32,8 +32,8 @@ never-below-zero calls p ident money = covered-in money ident (bookAt calls p) (
 
 -- a whole list from a sound book
 run-conserves : (book : Book) → sound book ≡ true → (calls : List Call) (ident : Ident) (money : Money)
-    → heldIn money ident book + freeIn money ident book + sum (acceptedFor money ident) (events book calls)
-    ≡ heldIn money ident (run book calls) + freeIn money ident (run book calls) + sum (leftFor money ident) (events book calls)
+    → heldIn money ident book + freeIn money ident book + sumOver (acceptedFor money ident) (events book calls)
+    ≡ heldIn money ident (run book calls) + freeIn money ident (run book calls) + sumOver (leftFor money ident) (events book calls)
 run-conserves book h [] ident money = refl
 run-conserves book h (call ∷ calls) ident money =
     omega (
@@ -43,7 +43,7 @@ run-conserves book h (call ∷ calls) ident money =
     )
 
 run-grows : (book : Book) → sound book ≡ true → (calls : List Call) (ident : Ident) (money : Money)
-    → acceptedIn money ident book + sum (acceptedFor money ident) (events book calls) ≡ acceptedIn money ident (run book calls)
+    → acceptedIn money ident book + sumOver (acceptedFor money ident) (events book calls) ≡ acceptedIn money ident (run book calls)
 run-grows book h [] ident money = omega arith
 run-grows book h (call ∷ calls) ident money =
     omega (
@@ -68,7 +68,7 @@ events-drop book zero calls = refl
 events-drop book (suc p) [] = refl
 events-drop book (suc p) (call ∷ calls) = events-drop (step book call .book) p calls
 
-between-events : (calls : List Call) (p n : ℕ) → between calls p n ≡ events (bookAt calls p) (take n (drop p calls))
+between-events : (calls : List Call) (p n : ℕ) → eventsBetween calls p n ≡ events (bookAt calls p) (take n (drop p calls))
 between-events calls p n = rw (events-drop [] p calls) (events-take (bookAt calls p) n (drop p calls))
 
 book-later : (calls : List Call) (p n : ℕ) → bookAt calls (p + n) ≡ run (bookAt calls p) (take n (drop p calls))
@@ -76,8 +76,8 @@ book-later calls p n = rw (take-add p n calls) (run-append [] (take p calls) (ta
 
 -- "Transfers accepted between the points equal the rise in money its orders hold, plus the rise in its free money, plus all that left."
 pub conserves : (calls : List Call) (p n : ℕ) (ident : Ident) (money : Money)
-    → heldIn money ident (bookAt calls p) + freeIn money ident (bookAt calls p) + sum (acceptedFor money ident) (between calls p n)
-    ≡ heldIn money ident (bookAt calls (p + n)) + freeIn money ident (bookAt calls (p + n)) + sum (leftFor money ident) (between calls p n)
+    → heldIn money ident (bookAt calls p) + freeIn money ident (bookAt calls p) + sumOver (acceptedFor money ident) (eventsBetween calls p n)
+    ≡ heldIn money ident (bookAt calls (p + n)) + freeIn money ident (bookAt calls (p + n)) + sumOver (leftFor money ident) (eventsBetween calls p n)
 conserves calls p n ident money =
     rw (book-later calls p n, between-events calls p n) (run-conserves (bookAt calls p) (always-sound calls p) (take n (drop p calls)) ident money)
 

@@ -12,10 +12,10 @@ use Rattle.epe.specs.Name.{titleOf}
 use Rattle.epe.specs.declared.ident.Ident.{Ident}
 use Rattle.epe.specs.declared.profile.Profile.{Profile}
 use Rattle.epe.proofs.IdentLaws.{same-is-equal}
-use Rattle.model.specs.Shipment.{Shipment, when, worth}
+use Rattle.model.specs.Shipment.{Shipment, onlyIf, worth}
 use Rattle.model.specs.Calls.{Act, Return, Call, Intake, Transfer, On, Refused, isRefusal, Outcome, waiting, transferred, acted}
 use Rattle.model.specs.Book.{Book, Step, stay, find, step}
-use Rattle.model.specs.Demand.{isFor, leftBy, ofShipment, orderOf, leavesBy, leaves, below, ordersOf, feeOf}
+use Rattle.model.specs.Demand.{isFor, leftBy, ofShipment, orderByIndex, leavesBy, leaves, below, ordersOf, feeOf}
 use Rattle.model.specs.Demand.{leftWithOrders, ordersLeaving, surplusBy, countIs}
 use Rattle.model.specs.declared.Route.{Route}
 use Rattle.model.proofs.Asking.{intake-either, transfer-either}
@@ -37,8 +37,8 @@ quiet-entire call book ident money says kept = omega (arith, says .quiet money, 
   where
     nothing : leftWithOrders money ident book call ≡ 0
     nothing =
-        let worthOf : ℕ → ℕ = λ j. worth money (feeOf (find ident book)) (orderOf j (find ident book)) in
-        below-none (ordersOf (find ident book)) (λ j. when (leaves money ident j book call) (worthOf j)) (λ j. ap (λ t. when t (worthOf j)) (kept j))
+        let worthOf : ℕ → ℕ = λ j. worth money (feeOf (find ident book)) (orderByIndex j (find ident book)) in
+        below-none (ordersOf (find ident book)) (λ j. onlyIf (leaves money ident j book call) (worthOf j)) (λ j. ap (λ t. onlyIf t (worthOf j)) (kept j))
 
 refusal : (call : Call) (book : Book) (number : ℕ) → Quiet call (stay (Refused number) book)
 refusal call book number = record { quiet = λ money. refl }
@@ -63,8 +63,8 @@ module _ (ident : Ident) (act : Act) where
   found-entire : (money : Money) (found : Option Shipment)
       → leftBy money (On ident act) (answered (acted act) found)
       ≡ below (ordersOf found)
-      (λ j. when (leavesBy money j (On ident act) (answered (acted act) found) (orderOf j found) (orderOf j (after (acted act) found)))
-      (worth money (feeOf found) (orderOf j found)))
+      (λ j. onlyIf (leavesBy money j (On ident act) (answered (acted act) found) (orderByIndex j found) (orderByIndex j (after (acted act) found)))
+      (worth money (feeOf found) (orderByIndex j found)))
       + surplusBy money (On ident act) (answered (acted act) found)
   found-entire money none = refl
   found-entire money (some s) = acted-leaves ident act s .entire money
@@ -97,7 +97,7 @@ module _ (ident : Ident) (route : Route) (money : Money) where
 
   found-counted : (found : Option Shipment)
       → countIs (below (ordersOf found)
-      (λ j. when (leavesBy money j call (answered does found) (orderOf j found) (orderOf j (after does found))) 1)) (answered does found)
+      (λ j. onlyIf (leavesBy money j call (answered does found) (orderByIndex j found) (orderByIndex j (after does found))) 1)) (answered does found)
   found-counted none = tt
   found-counted (some s) = acted-empties ident route money s .counted
 

@@ -14,7 +14,7 @@ use Rattle.epe.specs.declared.name.Name.{Name}
 use Rattle.model.specs.Shipment.{Shipment}
 use Rattle.model.specs.Calls.{Act, Call, On, Answer, Refused, Outcome, acted}
 use Rattle.model.specs.Book.{Book, onFirst, isCalled, find, step}
-use Rattle.model.specs.Demand.{isFor, ofShipment, orderOf, isOfOrder, isReturnOf, leavesBy, leaves}
+use Rattle.model.specs.Demand.{isFor, ofShipment, orderByIndex, isOfOrder, isReturnOf, leavesBy, leaves}
 use Rattle.model.proofs.Leaving.{acted-leaves, none-leaves}
 
 -- what is done to the shipment that was found, and the answer: 13 where none was
@@ -90,7 +90,7 @@ module _ (ident : Ident) (act : Act) (book : Book) where
 pub nothing-leaves : (money : Money) (ident : Ident) (j : ℕ) (book : Book) (call : Call) → isOfOrder j call ≡ false → isReturnOf money call ≡ false
     → leaves money ident j book call ≡ false
 nothing-leaves money ident j book call of-none back-none =
-    let before = orderOf j (find ident book) in
-    let later = orderOf j (find ident (step book call .book)) in
+    let before = orderByIndex j (find ident book) in
+    let later = orderByIndex j (find ident (step book call .book)) in
     let answer = step book call .answer in
     second-no (isFor ident call) (leavesBy money j call answer before later) (none-leaves money j call of-none back-none answer before later)

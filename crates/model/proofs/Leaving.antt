@@ -16,13 +16,13 @@ use Rattle.text.proofs.Branches.{and-left, and-right, second-no, either-way}
 use Rattle.money.specs.declared.Money.{Money}
 use Rattle.money.specs.declared.Money.the-variants.{K, O}
 use Rattle.epe.specs.declared.ident.Ident.{Ident}
-use Rattle.model.specs.Shipment.{of, Shipment, when, sum, isOpen, isPosted, waits, worth, free, holds}
+use Rattle.model.specs.Shipment.{byMoney, Shipment, onlyIf, sumOver, isOpen, isPosted, waits, worth, free, holds}
 use Rattle.model.specs.Calls.{Act, GoAhead, Pair, Close, OnOrder, Return, Call, On}
 use Rattle.model.specs.Calls.{Answer, Refused, Done, Accepted, IsPaired, Short, FeeEarned, AmountPaid, Returned, isRefusal}
 use Rattle.model.specs.Calls.{Outcome, leave, ask, withStage, withGoAhead, withReturned, withRows, withState, transferred, goneAhead, paired, closed}
 use Rattle.model.specs.Calls.{fits, becomes, says, noOrder, orderAt, onOrder}
 use Rattle.model.specs.Calls.{takes, waitsOn, cleared, afterReturn, waiting, waitingOrders, returnedBy, surplusReturned, acted}
-use Rattle.model.specs.Demand.{isMoney, leftBy, orderOf, isOfOrder, isReturnOf, waitEnds, leavesBy, below, surplusOf, surplusBy, countIs}
+use Rattle.model.specs.Demand.{isMoney, leftBy, orderByIndex, isOfOrder, isReturnOf, waitEnds, leavesBy, below, surplusOf, surplusBy, countIs}
 use Rattle.model.specs.declared.Deed.{Deed}
 use Rattle.model.specs.declared.Deed.the-variants.{Post, Pay, MarkUndelivered, Withdraw}
 use Rattle.model.specs.declared.Route.{Route}
@@ -37,15 +37,15 @@ use Rattle.model.proofs.Shipments.{open-is, posted-is, in-range}
 
 -- 1 where a money of an order is no longer held: it has left
 abbrev pub gone : Money → State → ℕ
-gone money state = when (not (holds money state)) 1
+gone money state = onlyIf (not (holds money state)) 1
 
 abbrev pub goneAt : Money → ℕ → Shipment → ℕ
-goneAt money j s = gone money (orderOf j (some s) .state)
+goneAt money j s = gone money (orderByIndex j (some s) .state)
 
 pub gone-one : (money : Money) (state : State) → gone money state ≤ 1
 gone-one money state = one (not (holds money state))
   where
-    one : (t : Bool) → when t 1 ≤ 1
+    one : (t : Bool) → onlyIf t 1 ≤ 1
     one true = omega arith
     one false = omega arith
 
@@ -121,11 +121,11 @@ module _ (route : Route) where
       go false off = off
 
   return-same : (money : Money) (row : Row)
-      → gone money (row .state) + when (waitsOn route money row) 1 ≤ gone money (afterReturn route money row .state)
+      → gone money (row .state) + onlyIf (waitsOn route money row) 1 ≤ gone money (afterReturn route money row .state)
   return-same money row = go (waitsOn route money row) refl
     where
       go : (t : Bool) → waitsOn route money row ≡ t
-          → gone money (row .state) + when t 1 ≤ gone money (cond t (withState (cleared money (row .state)) row) row .state)
+          → gone money (row .state) + onlyIf t 1 ≤ gone money (cond t (withState (cleared money (row .state)) row) row .state)
       go true on =
           let waiting = and-right (takes route (row .state)) (waits money (row .state)) on in
           rw (waiting-held money (row .state) waiting) (omega (arith, cleared-gone money (row .state) waiting))
@@ -139,12 +139,12 @@ module _ (route : Route) where
       go false = refl
 
   return-once : (money other : Money) (row : Row)
-      → gone money (row .state) + when (isMoney money other && waitEnds money row (afterReturn route other row)) 1
+      → gone money (row .state) + onlyIf (isMoney money other && waitEnds money row (afterReturn route other row)) 1
       ≤ gone money (afterReturn route other row .state)
   return-once money other row = go (isMoney money other) refl
     where
       go : (t : Bool) → isMoney money other ≡ t
-          → gone money (row .state) + when (t && waitEnds money row (afterReturn route other row)) 1 ≤ gone money (afterReturn route other row .state)
+          → gone money (row .state) + onlyIf (t && waitEnds money row (afterReturn route other row)) 1 ≤ gone money (afterReturn route other row .state)
       go true same = rw (← same-money money other same) (rw (return-ends money row) (return-same money row))
       go false apart = omega (arith, return-other money other row apart)
 
@@ -154,15 +154,15 @@ module _ (route : Route) where
 -- What an act leaves of a shipment, and its answer, as far as its orders' moneys go.
 module _ (ident : Ident) (act : Act) (s : Shipment) where
   abbrev pub leavesAt : Money → ℕ → Outcome → Bool
-  leavesAt money j o = leavesBy money j (On ident act) (o .answer) (orderOf j (some s)) (orderOf j (some (o .shipment)))
+  leavesAt money j o = leavesBy money j (On ident act) (o .answer) (orderByIndex j (some s)) (orderByIndex j (some (o .shipment)))
 
   -- the whole worth of each order whose money leaves
   abbrev pub leftWith : Money → Outcome → ℕ
-  leftWith money o = below (length (s .rows)) (λ j. when (leavesAt money j o) (worth money (s .fee) (orderOf j (some s))))
+  leftWith money o = below (length (s .rows)) (λ j. onlyIf (leavesAt money j o) (worth money (s .fee) (orderByIndex j (some s))))
 
   pub record Leaves (o : Outcome) : Type 0 where
     pub named : o .shipment .name ≡ s .name
-    pub once : (money : Money) (j : ℕ) → goneAt money j s + when (leavesAt money j o) 1 ≤ goneAt money j (o .shipment)
+    pub once : (money : Money) (j : ℕ) → goneAt money j s + onlyIf (leavesAt money j o) 1 ≤ goneAt money j (o .shipment)
     pub entire : (money : Money) → leftBy money (On ident act) (o .answer) ≡ leftWith money o + surplusBy money (On ident act) (o .answer)
 
   -- orders as they were, and no money of theirs leaves
@@ -178,8 +178,8 @@ module _ (ident : Ident) (act : Act) (s : Shipment) where
     where
       none-with : (money : Money) → leftWith money o ≡ 0
       none-with money =
-          below-none (length (s .rows)) (λ j. when (leavesAt money j o) (worth money (s .fee) (orderOf j (some s))))
-          (λ j. ap (λ t. when t (worth money (s .fee) (orderOf j (some s)))) (stays money j))
+          below-none (length (s .rows)) (λ j. onlyIf (leavesAt money j o) (worth money (s .fee) (orderByIndex j (some s))))
+          (λ j. ap (λ t. onlyIf t (worth money (s .fee) (orderByIndex j (some s)))) (stays money j))
 
   refusal : (number : ℕ) → Leaves (leave (Refused number) s)
   refusal number = quiet (leave (Refused number) s) refl refl (λ money j. refl) (λ money. refl)
@@ -189,13 +189,13 @@ module _ (ident : Ident) (act : Act) (s : Shipment) where
 
 -- whether a deed takes a money out of its order
 abbrev takesOut : Deed → Money → Bool
-takesOut Post money = of money false true
-takesOut Pay money = of money true false
+takesOut Post money = byMoney money false true
+takesOut Pay money = byMoney money true false
 takesOut MarkUndelivered money = false
 takesOut Withdraw money = false
 
 deed-gone : (deed : Deed) (money : Money) (state : State) → fits deed state ≡ true
-    → gone money state + when (takesOut deed money) 1 ≡ gone money (becomes deed)
+    → gone money state + onlyIf (takesOut deed money) 1 ≡ gone money (becomes deed)
 deed-gone Post K state is = rw (open-is state is)
 deed-gone Post O state is = rw (open-is state is)
 deed-gone Pay K state is = rw (posted-is state is)
@@ -216,7 +216,7 @@ module _ (ident : Ident) (number fee : ℕ) (row : Row) where
   deed-leaves Withdraw money j before after = sym (and-false (eqb number (j + 1)))
 
   deed-left : (deed : Deed) (money : Money)
-      → leftBy money (On ident (OnOrder deed number)) (says deed fee row) ≡ when (takesOut deed money) (worth money fee row)
+      → leftBy money (On ident (OnOrder deed number)) (says deed fee row) ≡ onlyIf (takesOut deed money) (worth money fee row)
   deed-left Post K = refl
   deed-left Post O = refl
   deed-left Pay K = refl
@@ -251,12 +251,12 @@ module _ (ident : Ident) (deed : Deed) (number : ℕ) (s : Shipment)
   elsewhere j apart = ne-eqb number (j + 1) (λ is. apart (omega (arith, first)))
 
   deed-leaves-at : (money : Money) (j : ℕ) → leavesAt ident (OnOrder deed number) s money j done ≡ (eqb number (j + 1) && takesOut deed money)
-  deed-leaves-at money j = deed-leaves ident number (s .fee) (orderAt number s) deed money j (orderOf j (some s)) (orderOf j (some (done .shipment)))
+  deed-leaves-at money j = deed-leaves ident number (s .fee) (orderAt number s) deed money j (orderByIndex j (some s)) (orderByIndex j (some (done .shipment)))
 
-  deed-once : (money : Money) (j : ℕ) → goneAt money j s + when (leavesAt ident (OnOrder deed number) s money j done) 1 ≤ goneAt money j (done .shipment)
+  deed-once : (money : Money) (j : ℕ) → goneAt money j s + onlyIf (leavesAt ident (OnOrder deed number) s money j done) 1 ≤ goneAt money j (done .shipment)
   deed-once money j = rw (deed-leaves-at money j) (go (eqb number (j + 1)) refl)
     where
-      go : (t : Bool) → eqb number (j + 1) ≡ t → goneAt money j s + when (t && takesOut deed money) 1 ≤ goneAt money j (done .shipment)
+      go : (t : Bool) → eqb number (j + 1) ≡ t → goneAt money j s + onlyIf (t && takesOut deed money) 1 ≤ goneAt money j (done .shipment)
       go true is =
           let now = getD-set-same (s .rows) (number - 1) (withState (becomes deed) (orderAt number s)) noOrder inside in
           rw (here j is) (omega (arith, deed-gone deed money (orderAt number s .state) fit, ap (λ (row : Row). gone money (row .state)) now))
@@ -268,13 +268,13 @@ module _ (ident : Ident) (deed : Deed) (number : ℕ) (s : Shipment)
   -- of the places below the count, the one that is named
   module _ (money : Money) where
     abbrev ifTaken : Bool → ℕ → ℕ
-    ifTaken t j = when (t && takesOut deed money) (worth money (s .fee) (orderOf j (some s)))
+    ifTaken t j = onlyIf (t && takesOut deed money) (worth money (s .fee) (orderByIndex j (some s)))
 
-    deed-place : leftWith ident (OnOrder deed number) s money done ≡ when (takesOut deed money) (worth money (s .fee) (orderAt number s))
+    deed-place : leftWith ident (OnOrder deed number) s money done ≡ onlyIf (takesOut deed money) (worth money (s .fee) (orderAt number s))
     deed-place =
-        below-same (length (s .rows)) (λ j. when (leavesAt ident (OnOrder deed number) s money j done) (worth money (s .fee) (orderOf j (some s))))
+        below-same (length (s .rows)) (λ j. onlyIf (leavesAt ident (OnOrder deed number) s money j done) (worth money (s .fee) (orderByIndex j (some s))))
         (λ j. ifTaken (eqb number (j + 1)) j)
-        (λ j. ap (λ t. when t (worth money (s .fee) (orderOf j (some s)))) (deed-leaves-at money j))
+        (λ j. ap (λ t. onlyIf t (worth money (s .fee) (orderByIndex j (some s)))) (deed-leaves-at money j))
         ∙ below-one (length (s .rows)) (number - 1) (λ j. ifTaken (eqb number (j + 1)) j) inside
         (λ j apart. ap (λ t. ifTaken t j) (elsewhere j apart))
         ∙ ap (λ t. ifTaken t (number - 1)) (eq-eqb number (number - 1 + 1) (omega (arith, first)))
@@ -291,7 +291,7 @@ module _ (ident : Ident) (deed : Deed) (number : ℕ) (s : Shipment)
 -- A return, as far as its count goes and what still waits on its route.
 module _ (ident : Ident) (route : Route) (money : Money) (s : Shipment) where
   pub record Empties (o : Outcome) : Type 0 where
-    pub counted : countIs (below (length (s .rows)) (λ j. when (leavesAt ident (Return route money) s money j o) 1)) (o .answer)
+    pub counted : countIs (below (length (s .rows)) (λ j. onlyIf (leavesAt ident (Return route money) s money j o) 1)) (o .answer)
     pub emptied : isRefusal (o .answer) ≡ false → waiting route money (o .shipment) ≡ 0
 
   asked-return : (t : Bool) (number : ℕ) (next : Outcome) → (t ≡ true → Empties next) → Empties (ask t number s next)
@@ -303,29 +303,29 @@ module _ (ident : Ident) (route : Route) (other : Money) (s : Shipment) where
   abbrev back : Outcome
   back = leave (Returned (waiting route other s) (waitingOrders route other s)) (withRows (map (afterReturn route other) (s .rows)) s)
 
-  order-back : (j : ℕ) → orderOf j (some (back .shipment)) ≡ afterReturn route other (orderOf j (some s))
+  order-back : (j : ℕ) → orderByIndex j (some (back .shipment)) ≡ afterReturn route other (orderByIndex j (some s))
   order-back j = rw (no-order-kept route other) at (List·getD-map (afterReturn route other) (s .rows) j noOrder)
 
-  back-leaves : (j : ℕ) → leavesAt ident (Return route other) s other j back ≡ waitsOn route other (orderOf j (some s))
-  back-leaves j = rw (money-itself other, order-back j) (return-ends route other (orderOf j (some s)))
+  back-leaves : (j : ℕ) → leavesAt ident (Return route other) s other j back ≡ waitsOn route other (orderByIndex j (some s))
+  back-leaves j = rw (money-itself other, order-back j) (return-ends route other (orderByIndex j (some s)))
 
   back-sum : (weight : Row → ℕ)
-      → sum (λ (row : Row). when (waitsOn route other row) (weight row)) (s .rows)
-      ≡ below (length (s .rows)) (λ j. when (leavesAt ident (Return route other) s other j back) (weight (orderOf j (some s))))
+      → sumOver (λ (row : Row). onlyIf (waitsOn route other row) (weight row)) (s .rows)
+      ≡ below (length (s .rows)) (λ j. onlyIf (leavesAt ident (Return route other) s other j back) (weight (orderByIndex j (some s))))
   back-sum weight =
-      sum-below (λ (row : Row). when (waitsOn route other row) (weight row)) (s .rows) noOrder
-      ∙ below-same (length (s .rows)) (λ j. when (waitsOn route other (orderOf j (some s))) (weight (orderOf j (some s))))
-      (λ j. when (leavesAt ident (Return route other) s other j back) (weight (orderOf j (some s))))
-      (λ j. ap (λ t. when t (weight (orderOf j (some s)))) (sym (back-leaves j)))
+      sum-below (λ (row : Row). onlyIf (waitsOn route other row) (weight row)) (s .rows) noOrder
+      ∙ below-same (length (s .rows)) (λ j. onlyIf (waitsOn route other (orderByIndex j (some s))) (weight (orderByIndex j (some s))))
+      (λ j. onlyIf (leavesAt ident (Return route other) s other j back) (weight (orderByIndex j (some s))))
+      (λ j. ap (λ t. onlyIf t (weight (orderByIndex j (some s)))) (sym (back-leaves j)))
 
-  back-once : (money : Money) (j : ℕ) → goneAt money j s + when (leavesAt ident (Return route other) s money j back) 1 ≤ goneAt money j (back .shipment)
-  back-once money j = rw (order-back j) (return-once route money other (orderOf j (some s)))
+  back-once : (money : Money) (j : ℕ) → goneAt money j s + onlyIf (leavesAt ident (Return route other) s money j back) 1 ≤ goneAt money j (back .shipment)
+  back-once money j = rw (order-back j) (return-once route money other (orderByIndex j (some s)))
 
-  back-left : (money : Money) → when (isMoney money other) (waiting route other s) ≡ leftWith ident (Return route other) s money back
+  back-left : (money : Money) → onlyIf (isMoney money other) (waiting route other s) ≡ leftWith ident (Return route other) s money back
   unfolding waiting
   back-left money =
       either-way (isMoney money other)
-      (λ same. rw (same-money money other same) (ap (λ t. when t (waiting route other s)) (money-itself other) ∙ back-sum (worth other (s .fee))))
+      (λ same. rw (same-money money other same) (ap (λ t. onlyIf t (waiting route other s)) (money-itself other) ∙ back-sum (worth other (s .fee))))
       (λ apart. rw apart (sym (below-none (length (s .rows)) (λ j. 0) (λ j. refl))))
 
   back-leaving : ((money : Money) (total : ℕ) → surplusOf money (On ident (Return route other)) total ≡ 0) → Leaves ident (Return route other) s back
@@ -340,8 +340,8 @@ module _ (ident : Ident) (route : Route) (other : Money) (s : Shipment) where
   back-empties = record {
     counted = back-sum (λ row. 1);
     emptied = λ accepted.
-        sum-map (λ (row : Row). when (waitsOn route other row) (worth other (s .fee) row)) (λ row. 0) (afterReturn route other)
-        (λ row. ap (λ t. when t (worth other (s .fee) (afterReturn route other row))) (return-empties route other row)) (s .rows)
+        sum-map (λ (row : Row). onlyIf (waitsOn route other row) (worth other (s .fee) row)) (λ row. 0) (afterReturn route other)
+        (λ row. ap (λ t. onlyIf t (worth other (s .fee) (afterReturn route other row))) (return-empties route other row)) (s .rows)
         ∙ sum-none (λ row. 0) (s .rows) (λ row. refl);
   }
 
@@ -364,7 +364,7 @@ module _ (ident : Ident) (other : Money) (s : Shipment) where
   surplusBack = leave (Returned (free other s) 0) (withReturned other (free other s) s)
 
   surplus-stays : (money : Money) (j : ℕ) → leavesAt ident (Return Zwr other) s money j surplusBack ≡ false
-  surplus-stays money j = rw (and-not-self (waits money (orderOf j (some s) .state))) (and-false (isMoney money other))
+  surplus-stays money j = rw (and-not-self (waits money (orderByIndex j (some s) .state))) (and-false (isMoney money other))
 
   surplus-leaves : Leaves ident (Return Zwr other) s (surplusReturned other s)
   unfolding surplusReturned
@@ -375,8 +375,8 @@ module _ (ident : Ident) (other : Money) (s : Shipment) where
   surplus-empties : Empties ident Zwr other s surplusBack
   unfolding waiting
   surplus-empties = record {
-    counted = sym (below-none (length (s .rows)) (λ j. when (leavesAt ident (Return Zwr other) s other j surplusBack) 1)
-        (λ j. ap (λ t. when t 1) (surplus-stays other j)));
+    counted = sym (below-none (length (s .rows)) (λ j. onlyIf (leavesAt ident (Return Zwr other) s other j surplusBack) 1)
+        (λ j. ap (λ t. onlyIf t 1) (surplus-stays other j)));
     emptied = λ accepted. sum-none (λ (row : Row). 0) (s .rows) (λ row. refl);
   }
 

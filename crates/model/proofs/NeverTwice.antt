@@ -12,10 +12,10 @@ use Rattle.epe.specs.Ident.{sameIdent}
 use Rattle.epe.specs.Name.{titleOf}
 use Rattle.epe.specs.declared.ident.Ident.{Ident}
 use Rattle.epe.proofs.IdentLaws.{same-is-equal}
-use Rattle.model.specs.Shipment.{Shipment, when}
+use Rattle.model.specs.Shipment.{Shipment, onlyIf}
 use Rattle.model.specs.Calls.{Act, Call, Intake, Transfer, On, Refused, transferred, acted}
 use Rattle.model.specs.Book.{Book, Step, stay, find, step}
-use Rattle.model.specs.Demand.{isFor, run, ofShipment, orderOf, leavesBy, leaves, timesLeft}
+use Rattle.model.specs.Demand.{isFor, run, ofShipment, orderByIndex, leavesBy, leaves, timesLeft}
 use Rattle.model.proofs.Asking.{intake-either, transfer-either}
 use Rattle.model.proofs.Leaving.{goneAt, gone-one, acted-leaves, transferred-keeps}
 use Rattle.model.proofs.Finding.{answered, after, found-grows, appended-grows, on-answer, on-found, nothing-leaves}
@@ -48,14 +48,14 @@ module _ (money : Money) (ident : Ident) (j : ℕ) where
 
   -- a step by which the money leaves finds it not gone, and leaves it gone
   abbrev Once : Book → Call → Type 0
-  Once book call = goneIn book + when (leaves money ident j book call) 1 ≤ goneIn (step book call .book)
+  Once book call = goneIn book + onlyIf (leaves money ident j book call) 1 ≤ goneIn (step book call .book)
 
   not-leaving : (book : Book) (call : Call) → leaves money ident j book call ≡ false → Once book call
   not-leaving book call kept = rw kept (omega (arith, step-grows book call .grows))
 
   found-once : (act : Act) (found : Option Shipment)
       → ofShipment (goneAt money j) found
-      + when (leavesBy money j (On ident act) (answered (acted act) found) (orderOf j found) (orderOf j (after (acted act) found))) 1
+      + onlyIf (leavesBy money j (On ident act) (answered (acted act) found) (orderByIndex j found) (orderByIndex j (after (acted act) found))) 1
       ≤ ofShipment (goneAt money j) (after (acted act) found)
   found-once act none = omega arith
   found-once act (some s) = acted-leaves ident act s .once money j
@@ -83,7 +83,7 @@ module _ (money : Money) (ident : Ident) (j : ℕ) where
 
   found-gone-one : (found : Option Shipment) → ofShipment (goneAt money j) found ≤ 1
   found-gone-one none = omega arith
-  found-gone-one (some s) = gone-one money (orderOf j (some s) .state)
+  found-gone-one (some s) = gone-one money (orderByIndex j (some s) .state)
 
 -- "No order's money leaves twice."
 pub never-twice : (calls : List Call) (money : Money) (ident : Ident) (j : ℕ) → timesLeft money ident j [] calls ≤ 1

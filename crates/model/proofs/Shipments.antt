@@ -11,7 +11,7 @@ use Rattle.text.specs.Bytes.{between}
 use Rattle.text.proofs.Branches.{and-left, and-right}
 use Rattle.money.specs.declared.Money.{Money}
 use Rattle.money.specs.declared.Money.the-variants.{K, O}
-use Rattle.model.specs.Shipment.{Shipment, accepted, isWaiting, isPaired, when, sum, isOpen, isPosted, need, needOncePaired}
+use Rattle.model.specs.Shipment.{Shipment, accepted, isWaiting, isPaired, onlyIf, sumOver, isOpen, isPosted, need, needOncePaired}
 use Rattle.model.specs.Calls.{fits}
 use Rattle.model.specs.declared.Deed.{Deed}
 use Rattle.model.specs.declared.Deed.the-variants.{Post, Pay, MarkUndelivered, Withdraw}
@@ -22,11 +22,11 @@ use Rattle.model.specs.declared.State.{State}
 use Rattle.model.specs.declared.State.the-variants.{Open, Posted, Paid, Faulty, Undelivered, Withdrawn}
 
 -- tests and stages
-pub when-true : (t : Bool) (n : ℕ) → t ≡ true → when t n ≡ n
-when-true t n h = rw h
+pub only-if-true : (t : Bool) (n : ℕ) → t ≡ true → onlyIf t n ≡ n
+only-if-true t n h = rw h
 
-pub when-false : (t : Bool) (n : ℕ) → t ≡ false → when t n ≡ 0
-when-false t n h = rw h
+pub only-if-false : (t : Bool) (n : ℕ) → t ≡ false → onlyIf t n ≡ 0
+only-if-false t n h = rw h
 
 pub waiting-unpaired : (stage : Stage) → isWaiting stage ≡ true → isPaired stage ≡ false
 waiting-unpaired Waiting e = refl
@@ -39,7 +39,7 @@ amountOf row = row .amount .0
 
 module _ (money : Money) (s t : Shipment) where
   pub same-need : t .fee ≡ s .fee → length (t .rows) ≡ length (s .rows)
-      → sum amountOf (t .rows) ≡ sum amountOf (s .rows) → need money t ≡ need money s
+      → sumOver amountOf (t .rows) ≡ sumOver amountOf (s .rows) → need money t ≡ need money s
   unfolding need
   same-need fees counts sums = by money
     where
@@ -48,7 +48,7 @@ module _ (money : Money) (s t : Shipment) where
       by O = rw (fees, counts)
 
   pub same-need-once : t .stage ≡ s .stage → need money t ≡ need money s → needOncePaired money t ≡ needOncePaired money s
-  same-need-once stages needs = ap (λ stage. when (isPaired stage) (need money t)) stages ∙ ap (when (isPaired (s .stage))) needs
+  same-need-once stages needs = ap (λ stage. onlyIf (isPaired stage) (need money t)) stages ∙ ap (onlyIf (isPaired (s .stage))) needs
 
 -- both needs covered
 pub both-covered : (s : Shipment) → (leb (need K s) (accepted K s) && leb (need O s) (accepted O s)) ≡ true → (money : Money) → need money s ≤ accepted money s

@@ -18,7 +18,7 @@ use Rattle.epe.specs.declared.name.Name.{Name}
 use Rattle.epe.specs.declared.profile.Profile.{Profile}
 use Rattle.epe.specs.declared.record.Order.{Order}
 use Rattle.epe.proofs.IdentLaws.{same-is-equal}
-use Rattle.model.specs.Shipment.{of, Shipment, accepted, when, free, held, holds}
+use Rattle.model.specs.Shipment.{byMoney, Shipment, accepted, onlyIf, free, held, holds}
 use Rattle.model.specs.Calls.{Act, Call, Intake, Transfer, On, Answer, Refused, Accepted, isRefusal, Outcome, transferred, acted}
 use Rattle.model.specs.Book.{Book, Step, stay, onFirst, isCalled, sameName, find, isUnknown, entered}
 use Rattle.model.specs.Book.{step}
@@ -55,12 +55,12 @@ pub record StepFair (book : Book) (call : Call) (next : Step) : Type 0 where
   pub refused : isRefusal (next .answer) ≡ true → next .book ≡ book
   pub others : (ident : Ident) → isFor ident call ≡ false → find ident (next .book) ≡ find ident book
   pub conserves : (ident : Ident) (money : Money)
-      → heldIn money ident book + freeIn money ident book + when (isFor ident call) (acceptedBy money call (next .answer))
-      ≡ heldIn money ident (next .book) + freeIn money ident (next .book) + when (isFor ident call) (leftBy money call (next .answer))
+      → heldIn money ident book + freeIn money ident book + onlyIf (isFor ident call) (acceptedBy money call (next .answer))
+      ≡ heldIn money ident (next .book) + freeIn money ident (next .book) + onlyIf (isFor ident call) (leftBy money call (next .answer))
   pub grows : (ident : Ident) (money : Money)
-      → acceptedIn money ident book + when (isFor ident call) (acceptedBy money call (next .answer)) ≡ acceptedIn money ident (next .book)
+      → acceptedIn money ident book + onlyIf (isFor ident call) (acceptedBy money call (next .answer)) ≡ acceptedIn money ident (next .book)
 
-nothing-more : (t : Bool) (n : ℕ) → n + when t 0 ≡ n
+nothing-more : (t : Bool) (n : ℕ) → n + onlyIf t 0 ≡ n
 nothing-more true n = omega arith
 nothing-more false n = omega arith
 
@@ -86,8 +86,8 @@ module _
       subst (λ i. Moves money call (next .answer) (find i book) (find i (next .book))) (sym (same-is-equal ident named .0 same)) (moves money)
 
   step-conserves : (ident : Ident) (money : Money)
-      → heldIn money ident book + freeIn money ident book + when (isFor ident call) (acceptedBy money call (next .answer))
-      ≡ heldIn money ident (next .book) + freeIn money ident (next .book) + when (isFor ident call) (leftBy money call (next .answer))
+      → heldIn money ident book + freeIn money ident book + onlyIf (isFor ident call) (acceptedBy money call (next .answer))
+      ≡ heldIn money ident (next .book) + freeIn money ident (next .book) + onlyIf (isFor ident call) (leftBy money call (next .answer))
   step-conserves ident money = either-way (sameIdent ident named)
       (λ same.
       let this = is-for ident ∙ same in
@@ -97,7 +97,7 @@ module _
       rw (this, others ident apart))
 
   step-grows : (ident : Ident) (money : Money)
-      → acceptedIn money ident book + when (isFor ident call) (acceptedBy money call (next .answer)) ≡ acceptedIn money ident (next .book)
+      → acceptedIn money ident book + onlyIf (isFor ident call) (acceptedBy money call (next .answer)) ≡ acceptedIn money ident (next .book)
   step-grows ident money = either-way (sameIdent ident named)
       (λ same.
       let this = is-for ident ∙ same in

@@ -5,7 +5,7 @@ use mathlib.Core.List.{List, [], _∷_, map}
 use Prim.Native.Nat.{ℕ, zero, suc, _+_, _<_}
 use native.Mathlib.Omega.{arith}
 use lib.ListN.{length, getD, set}
-use Rattle.model.specs.Shipment.{sum}
+use Rattle.model.specs.Shipment.{sumOver}
 use Rattle.model.specs.Demand.{below}
 
 pub below-none : (n : ℕ) (f : ℕ → ℕ) → ((j : ℕ) → f j ≡ 0) → below n f ≡ 0
@@ -24,23 +24,23 @@ below-one (suc n) (suc k) f inside elsewhere =
     omega (arith, elsewhere 0 (omega arith), below-one n k (λ j. f (suc j)) (omega arith) (λ j apart. elsewhere (suc j) (omega arith)))
 
 module _ {A : Type 0} where
-  pub sum-below : (f : A → ℕ) (l : List A) (none : A) → sum f l ≡ below (length l) (λ j. f (getD l j none))
+  pub sum-below : (f : A → ℕ) (l : List A) (none : A) → sumOver f l ≡ below (length l) (λ j. f (getD l j none))
   sum-below f [] none = refl
   sum-below f (a ∷ l) none = omega (arith, sum-below f l none)
 
-  pub sum-none : (f : A → ℕ) (l : List A) → ((a : A) → f a ≡ 0) → sum f l ≡ 0
+  pub sum-none : (f : A → ℕ) (l : List A) → ((a : A) → f a ≡ 0) → sumOver f l ≡ 0
   sum-none f [] none = refl
   sum-none f (a ∷ l) none = omega (arith, none a, sum-none f l none)
 
-  pub sum-set : (f : A → ℕ) (l : List A) (j : ℕ) (a none : A) → j < length l → sum f (set l j a) + f (getD l j none) ≡ sum f l + f a
+  pub sum-set : (f : A → ℕ) (l : List A) (j : ℕ) (a none : A) → j < length l → sumOver f (set l j a) + f (getD l j none) ≡ sumOver f l + f a
   sum-set f [] j a none inside = omega arith
   sum-set f (b ∷ l) zero a none inside = omega arith
   sum-set f (b ∷ l) (suc j) a none inside = let rest = sum-set f l j a none (omega arith) in omega arith
 
-  pub sum-moved : (f g h : A → ℕ) (c : A → A) → ((a : A) → f (c a) + g a ≡ h a) → (l : List A) → sum f (map c l) + sum g l ≡ sum h l
+  pub sum-moved : (f g h : A → ℕ) (c : A → A) → ((a : A) → f (c a) + g a ≡ h a) → (l : List A) → sumOver f (map c l) + sumOver g l ≡ sumOver h l
   sum-moved f g h c e [] = refl
   sum-moved f g h c e (a ∷ l) = let rest = sum-moved f g h c e l in let first = e a in omega arith
 
-pub sum-map : {A B : Type 0} (f : B → ℕ) (h : A → ℕ) (c : A → B) → ((a : A) → f (c a) ≡ h a) → (l : List A) → sum f (map c l) ≡ sum h l
+pub sum-map : {A B : Type 0} (f : B → ℕ) (h : A → ℕ) (c : A → B) → ((a : A) → f (c a) ≡ h a) → (l : List A) → sumOver f (map c l) ≡ sumOver h l
 sum-map f h c e [] = refl
 sum-map f h c e (a ∷ l) = let rest = sum-map f h c e l in let first = e a in omega arith

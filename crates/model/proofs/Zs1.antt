@@ -2,11 +2,11 @@
 -- and titles.
 -- Assumes nothing.
 use mathlib.Core.Path.{refl}
-use Rattle.text.specs.Bytes.{digit, letter, letterOrDigit, lettersOrDigits, same, holds as holdsByte}
+use Rattle.text.specs.Bytes.{digit, letter, letterOrDigit, lettersOrDigits, same, hasByte}
 use Rattle.text.specs.Number.{number, numberAfter, isNumber, valueOf}
 use Rattle.text.specs.Fields.{fields, onto}
 use Rattle.text.specs.Lines.{lines, parted, withoutLastEnd, stray}
-use Rattle.text.specs.Utf8.{ascii, tail, lead2, lead3, lead4, point2, point3, point4, surrogate, range2, range3, range4, row2, row3, row4}
+use Rattle.text.specs.Utf8.{ascii, tailOctet, lead2, lead3, lead4, point2, point3, point4, surrogate, range2, range3, range4, row2, row3, row4}
 use Rattle.text.specs.Utf8.{width, wellFormedAfter, starts, codePoints}
 use Rattle.money.specs.Money.{isAmount, groszeOf}
 use Rattle.money.specs.Text.{textOf, together}
@@ -31,7 +31,7 @@ use Rattle.model.specs.Neighbours.{Neighbours}
 
 -- names the definitions that the table computes
 unfoldable pub stepped : Book → Call → Step
-unfolding digit letter letterOrDigit lettersOrDigits same holdsByte number numberAfter isNumber valueOf fields onto lines parted withoutLastEnd stray ascii tail lead2 lead3 lead4 point2 point3 point4 surrogate range2 range3 range4 row2 row3 row4 width wellFormedAfter starts codePoints isAmount groszeOf textOf together real leap monthLength inWindow dayNumber daysOfYears daysOfMonths dateOf dateOfNumber dateOfDigits dateInWindow clockTime timeOfNumber timeOfDay firstNo isPassed identifier identOf sameIdent profileFits feesFit nameQuestions nameOf titleQuestions titleOf marked fileQuestions fixedQuestions repeatedQuestions openingQuestions opening sized empty placed housed postcode extra spaced unspaced faultQuestions faultIn faultOf dateQuestions statedQuestions shaped allShaped allPriced total recordQuestions contentsQuestions contents orderOf orders faultyCount need free held anyFaulty ask choose transferred goneAhead paired closed onOrder waiting waitingOrders returnedBy surplusReturned acted inquire unlessRefused sameName entered takenIn transferredIn step
+unfolding digit letter letterOrDigit lettersOrDigits same hasByte number numberAfter isNumber valueOf fields onto lines parted withoutLastEnd stray ascii tailOctet lead2 lead3 lead4 point2 point3 point4 surrogate range2 range3 range4 row2 row3 row4 width wellFormedAfter starts codePoints isAmount groszeOf textOf together real leap monthLength inWindow dayNumber daysOfYears daysOfMonths dateOf dateOfNumber dateOfDigits dateInWindow clockTime timeOfNumber timeOfDay firstNo isPassed identifier identOf sameIdent profileFits feesFit nameQuestions nameOf titleQuestions titleOf marked fileQuestions fixedQuestions repeatedQuestions openingQuestions opening sized empty placed housed postcode extra spaced unspaced faultQuestions faultIn faultOf dateQuestions statedQuestions shaped allShaped allPriced total recordQuestions contentsQuestions contents orderOf orders faultyCount need free held anyFaulty ask choose transferred goneAhead paired closed onOrder waiting waitingOrders returnedBy surplusReturned acted inquire unlessRefused sameName entered takenIn transferredIn step
 stepped = step
 
 computed : Table × Neighbours

@@ -18,7 +18,7 @@ use Rattle.epe.specs.declared.profile.Profile.{Profile}
 use Rattle.epe.specs.declared.record.Order.{Order}
 use Rattle.epe.specs.declared.verdict.Verdict.{Verdict}
 use Rattle.epe.specs.declared.verdict.Verdict.the-variants.{Passed, Refused as No}
-use Rattle.model.specs.Shipment.{Shipment, sum}
+use Rattle.model.specs.Shipment.{Shipment, sumOver}
 use Rattle.model.specs.Calls.{Call, Intake, Transfer, On, Answer, Refused, Accepted, Outcome, transferred, acted}
 use Rattle.model.specs.declared.Row.{Row}
 use Rattle.model.specs.declared.Stage.the-variants.{Waiting}
@@ -71,7 +71,7 @@ isUnknown ident [] = true
 isUnknown ident (s ∷ book) = cond (isCalled ident s) false (isUnknown ident book)
 
 abbrev pub rowsIn : Book → ℕ
-rowsIn book = sum (λ (s : Shipment). length (s .rows)) book
+rowsIn book = sumOver (λ (s : Shipment). length (s .rows)) book
 
 -- "Intake adds a shipment that is Waiting, without go-ahead or money, its orders Open or Faulty with both moneys waiting."
 abbrev pub enteredRow : Order → Row

@@ -10,7 +10,7 @@ use Rattle.money.specs.declared.Money.{Money}
 use Rattle.money.specs.declared.Money.the-variants.{K, O}
 use Rattle.epe.specs.declared.ident.Ident.{Ident}
 use Rattle.epe.specs.declared.profile.Profile.{Profile}
-use Rattle.model.specs.Shipment.{of, Shipment, accepted, isWaiting, isPaired, when, sum, isOpen, isPosted, isFaulty, isUndelivered, isWithdrawn}
+use Rattle.model.specs.Shipment.{byMoney, Shipment, accepted, isWaiting, isPaired, onlyIf, sumOver, isOpen, isPosted, isFaulty, isUndelivered, isWithdrawn}
 use Rattle.model.specs.Shipment.{waits, worth, need, free, anyFaulty}
 use Rattle.model.specs.declared.Deed.{Deed}
 use Rattle.model.specs.declared.Deed.the-variants.{Post, Pay, MarkUndelivered, Withdraw}
@@ -106,8 +106,8 @@ withAccepted money n s = record {
   fee = s .fee;
   stage = s .stage;
   goAhead = s .goAhead;
-  acceptedK = s .acceptedK + of money n 0;
-  acceptedO = s .acceptedO + of money 0 n;
+  acceptedK = s .acceptedK + byMoney money n 0;
+  acceptedO = s .acceptedO + byMoney money 0 n;
   returnedK = s .returnedK;
   returnedO = s .returnedO;
   rows = s .rows;
@@ -121,8 +121,8 @@ withReturned money n s = record {
   goAhead = s .goAhead;
   acceptedK = s .acceptedK;
   acceptedO = s .acceptedO;
-  returnedK = s .returnedK + of money n 0;
-  returnedO = s .returnedO + of money 0 n;
+  returnedK = s .returnedK + byMoney money n 0;
+  returnedO = s .returnedO + byMoney money 0 n;
   rows = s .rows;
 }
 
@@ -215,24 +215,24 @@ abbrev pub cleared : Money → State → State
 cleared money Open = Open
 cleared money Posted = Posted
 cleared money Paid = Paid
-cleared money (Faulty fault k o) = Faulty fault (of money false k) (of money o false)
-cleared money (Undelivered k) = Undelivered (of money false k)
-cleared money (Withdrawn k o) = Withdrawn (of money false k) (of money o false)
+cleared money (Faulty fault k o) = Faulty fault (byMoney money false k) (byMoney money o false)
+cleared money (Undelivered k) = Undelivered (byMoney money false k)
+cleared money (Withdrawn k o) = Withdrawn (byMoney money false k) (byMoney money o false)
 
 abbrev pub afterReturn : Route → Money → Row → Row
 afterReturn route money row = cond (waitsOn route money row) (withState (cleared money (row .state)) row) row
 
 -- What waits on a route, and in how many orders.
 unfoldable pub waiting : Route → Money → Shipment → ℕ
-waiting route money s = sum (λ (row : Row). when (waitsOn route money row) (worth money (s .fee) row)) (s .rows)
+waiting route money s = sumOver (λ (row : Row). onlyIf (waitsOn route money row) (worth money (s .fee) row)) (s .rows)
 
 unfoldable pub waitingOrders : Route → Money → Shipment → ℕ
-waitingOrders route money s = sum (λ (row : Row). when (waitsOn route money row) 1) (s .rows)
+waitingOrders route money s = sumOver (λ (row : Row). onlyIf (waitsOn route money row) 1) (s .rows)
 
 abbrev pub isZprWithO : Route → Money → Bool
 isZprWithO Zwr money = false
 isZprWithO Opr money = false
-isZprWithO Zpr money = of money false true
+isZprWithO Zpr money = byMoney money false true
 isZprWithO Zzr money = false
 
 -- "For the rest: Paired? 19. Not ZPR with O? 22. Anything above zero to return? 23."

@@ -15,7 +15,7 @@ use Rattle.money.specs.declared.Money.the-variants.{K, O}
 use Rattle.epe.specs.Ident.{sameIdent}
 use Rattle.epe.specs.Name.{nameOf, titleOf}
 use Rattle.epe.specs.declared.ident.Ident.{Ident}
-use Rattle.model.specs.Shipment.{of, Shipment, accepted, returned, when, sum, waits, worth, needOncePaired, free, held}
+use Rattle.model.specs.Shipment.{byMoney, Shipment, accepted, returned, onlyIf, sumOver, waits, worth, needOncePaired, free, held}
 use Rattle.model.specs.Calls.{GoAhead, Pair, Close, OnOrder, Return, Call, Intake, Transfer, On, noOrder, waiting}
 use Rattle.model.specs.Calls.{Answer, Refused, Done, Accepted, IsPaired, Short, FeeEarned, AmountPaid, Returned, isRefusal}
 use Rattle.model.specs.Book.{Book, find, step}
@@ -24,8 +24,8 @@ use Rattle.model.specs.declared.Route.the-variants.{Zwr, Opr, Zpr, Zzr}
 use Rattle.model.specs.declared.Row.{Row}
 
 abbrev pub isMoney : Money → Money → Bool
-isMoney K money = of money true false
-isMoney O money = of money false true
+isMoney K money = byMoney money true false
+isMoney O money = byMoney money false true
 
 -- "A call is for the shipment that its identifier, title or file name names."
 unfoldable pub isFor : Ident → Call → Bool
@@ -36,7 +36,7 @@ isFor ident (On other act) = sameIdent ident other
 -- "Demand 3 counts .. the amounts of the transfer calls answered as done as transfers accepted."
 abbrev pub transferOf : Money → Call → ℕ
 transferOf money (Intake profile name file) = 0
-transferOf money (Transfer title amount) = when (isMoney money (titleOf title .money)) amount
+transferOf money (Transfer title amount) = onlyIf (isMoney money (titleOf title .money)) amount
 transferOf money (On ident act) = 0
 
 abbrev pub acceptedBy : Money → Call → Answer → ℕ
@@ -57,7 +57,7 @@ returnOf money (On ident GoAhead) total = 0
 returnOf money (On ident Pair) total = 0
 returnOf money (On ident Close) total = 0
 returnOf money (On ident (OnOrder deed number)) total = 0
-returnOf money (On ident (Return route other)) total = when (isMoney money other) total
+returnOf money (On ident (Return route other)) total = onlyIf (isMoney money other) total
 
 abbrev pub leftBy : Money → Call → Answer → ℕ
 leftBy money call (Refused n) = 0
@@ -65,8 +65,8 @@ leftBy money call Done = 0
 leftBy money call (Accepted orders faulty) = 0
 leftBy money call IsPaired = 0
 leftBy money call (Short k o) = 0
-leftBy money call (FeeEarned fee) = of money 0 fee
-leftBy money call (AmountPaid amount) = of money amount 0
+leftBy money call (FeeEarned fee) = byMoney money 0 fee
+leftBy money call (AmountPaid amount) = byMoney money amount 0
 leftBy money call (Returned total count) = returnOf money call total
 
 -- A call and its answer, and those of a list of calls from a book.
@@ -86,15 +86,15 @@ events book (call ∷ calls) = record { call = call; answer = step book call .an
 abbrev pub bookAt : List Call → ℕ → Book
 bookAt calls p = run [] (take p calls)
 
-abbrev pub between : List Call → ℕ → ℕ → List Event
-between calls p n = take n (drop p (events [] calls))
+abbrev pub eventsBetween : List Call → ℕ → ℕ → List Event
+eventsBetween calls p n = take n (drop p (events [] calls))
 
 -- What was accepted and what left for a shipment, by the events alone.
 abbrev pub acceptedFor : Money → Ident → Event → ℕ
-acceptedFor money ident event = when (isFor ident (event .call)) (acceptedBy money (event .call) (event .answer))
+acceptedFor money ident event = onlyIf (isFor ident (event .call)) (acceptedBy money (event .call) (event .answer))
 
 abbrev pub leftFor : Money → Ident → Event → ℕ
-leftFor money ident event = when (isFor ident (event .call)) (leftBy money (event .call) (event .answer))
+leftFor money ident event = onlyIf (isFor ident (event .call)) (leftBy money (event .call) (event .answer))
 
 -- "All zero before its intake."
 abbrev pub ofShipment : (Shipment → ℕ) → Option Shipment → ℕ
@@ -116,9 +116,9 @@ Covered money none = Unit {0}
 Covered money (some s) = needOncePaired money s + returned money s ≤ accepted money s
 
 -- Order j of a shipment, counted from 0.
-abbrev pub orderOf : ℕ → Option Shipment → Row
-orderOf j none = noOrder
-orderOf j (some s) = getD (s .rows) j noOrder
+abbrev pub orderByIndex : ℕ → Option Shipment → Row
+orderByIndex j none = noOrder
+orderByIndex j (some s) = getD (s .rows) j noOrder
 
 -- "An order's K leaves by an accepted pay of it, or by the accepted return of K that ends its wait; its O by an accepted post of it, or by the
 -- accepted return of O that ends its wait."
@@ -149,20 +149,20 @@ leavesBy money j call Done before after = false
 leavesBy money j call (Accepted orders faulty) before after = false
 leavesBy money j call IsPaired before after = false
 leavesBy money j call (Short k o) before after = false
-leavesBy money j call (FeeEarned fee) before after = of money false (isOfOrder j call)
-leavesBy money j call (AmountPaid amount) before after = of money (isOfOrder j call) false
+leavesBy money j call (FeeEarned fee) before after = byMoney money false (isOfOrder j call)
+leavesBy money j call (AmountPaid amount) before after = byMoney money (isOfOrder j call) false
 leavesBy money j call (Returned total count) before after = isReturnOf money call && waitEnds money before after
 
 -- Whether order j's money leaves the shipment by a step from a book.
 abbrev pub leaves : Money → Ident → ℕ → Book → Call → Bool
 leaves money ident j book call =
     isFor ident call
-    && leavesBy money j call (step book call .answer) (orderOf j (find ident book)) (orderOf j (find ident (step book call .book)))
+    && leavesBy money j call (step book call .answer) (orderByIndex j (find ident book)) (orderByIndex j (find ident (step book call .book)))
 
 -- How often it does in a list.
 abbrev pub timesLeft : Money → Ident → ℕ → Book → List Call → ℕ
 timesLeft money ident j book [] = 0
-timesLeft money ident j book (call ∷ calls) = when (leaves money ident j book call) 1 + timesLeft money ident j (step book call .book) calls
+timesLeft money ident j book (call ∷ calls) = onlyIf (leaves money ident j book call) 1 + timesLeft money ident j (step book call .book) calls
 
 -- The sum of f over the numbers below n.
 abbrev pub below : ℕ → (ℕ → ℕ) → ℕ
@@ -181,10 +181,10 @@ feeOf (some s) = s .fee
 abbrev pub leftWithOrders : Money → Ident → Book → Call → ℕ
 leftWithOrders money ident book call =
     below (ordersOf (find ident book))
-    (λ j. when (leaves money ident j book call) (worth money (feeOf (find ident book)) (orderOf j (find ident book))))
+    (λ j. onlyIf (leaves money ident j book call) (worth money (feeOf (find ident book)) (orderByIndex j (find ident book))))
 
 abbrev pub ordersLeaving : Money → Ident → Book → Call → ℕ
-ordersLeaving money ident book call = below (ordersOf (find ident book)) (λ j. when (leaves money ident j book call) 1)
+ordersLeaving money ident book call = below (ordersOf (find ident book)) (λ j. onlyIf (leaves money ident j book call) 1)
 
 abbrev pub surplusOf : Money → Call → ℕ → ℕ
 surplusOf money (Intake profile name file) total = 0
@@ -193,7 +193,7 @@ surplusOf money (On ident GoAhead) total = 0
 surplusOf money (On ident Pair) total = 0
 surplusOf money (On ident Close) total = 0
 surplusOf money (On ident (OnOrder deed number)) total = 0
-surplusOf money (On ident (Return Zwr other)) total = when (isMoney money other) total
+surplusOf money (On ident (Return Zwr other)) total = onlyIf (isMoney money other) total
 surplusOf money (On ident (Return Opr other)) total = 0
 surplusOf money (On ident (Return Zpr other)) total = 0
 surplusOf money (On ident (Return Zzr other)) total = 0
@@ -242,8 +242,8 @@ AtEachCall book (call ∷ calls) = AtCall book call × AtEachCall (step book cal
 pub record Demand3 (calls : List Call) : Type 0 where
   -- between the points p and p + n: held and free before, with what was accepted, are held and free after, with what left
   pub conserves : (p n : ℕ) (ident : Ident) (money : Money)
-      → heldIn money ident (bookAt calls p) + freeIn money ident (bookAt calls p) + sum (acceptedFor money ident) (between calls p n)
-      ≡ heldIn money ident (bookAt calls (p + n)) + freeIn money ident (bookAt calls (p + n)) + sum (leftFor money ident) (between calls p n)
+      → heldIn money ident (bookAt calls p) + freeIn money ident (bookAt calls p) + sumOver (acceptedFor money ident) (eventsBetween calls p n)
+      ≡ heldIn money ident (bookAt calls (p + n)) + freeIn money ident (bookAt calls (p + n)) + sumOver (leftFor money ident) (eventsBetween calls p n)
   pub never-below-zero : (p : ℕ) (ident : Ident) (money : Money) → Covered money (find ident (bookAt calls p))
   pub never-twice : (money : Money) (ident : Ident) (j : ℕ) → timesLeft money ident j [] calls ≤ 1
   pub at-each-call : AtEachCall [] calls
@@ -251,4 +251,4 @@ pub record Demand3 (calls : List Call) : Type 0 where
 -- What a shipment has accepted is what its transfers that were answered as done come to, at every point.
 abbrev pub AcceptedAsAnswered : Type 0
 AcceptedAsAnswered = (calls : List Call) (p : ℕ) (ident : Ident) (money : Money)
-    → acceptedIn money ident (bookAt calls p) ≡ sum (acceptedFor money ident) (between calls 0 p)
+    → acceptedIn money ident (bookAt calls p) ≡ sumOver (acceptedFor money ident) (eventsBetween calls 0 p)

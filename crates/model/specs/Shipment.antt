@@ -13,9 +13,9 @@ use Rattle.model.specs.declared.State.{State}
 use Rattle.model.specs.declared.State.the-variants.{Open, Posted, Paid, Faulty, Undelivered, Withdrawn}
 
 -- What is meant for K, or for O.
-abbrev pub of {ℓ} : {A : Type ℓ} → Money → A → A → A
-of K k o = k
-of O k o = o
+abbrev pub byMoney {ℓ} : {A : Type ℓ} → Money → A → A → A
+byMoney K k o = k
+byMoney O k o = o
 
 -- "A shipment has its name parts, fee F (the profile's for its kind), stage Waiting, Paired or Closed, whether a go-ahead (OBS) came,
 -- transfers accepted per money, and surplus returned per money." And its orders, in the order of the file.
@@ -31,10 +31,10 @@ pub record Shipment : Type 0 where
   pub rows : List Row
 
 abbrev pub accepted : Money → Shipment → ℕ
-accepted money s = of money (s .acceptedK) (s .acceptedO)
+accepted money s = byMoney money (s .acceptedK) (s .acceptedO)
 
 abbrev pub returned : Money → Shipment → ℕ
-returned money s = of money (s .returnedK) (s .returnedO)
+returned money s = byMoney money (s .returnedK) (s .returnedO)
 
 abbrev pub isWaiting : Stage → Bool
 isWaiting Waiting = true
@@ -47,13 +47,13 @@ isPaired Paired = true
 isPaired Closed = false
 
 -- n where a test holds, else nothing; and a sum over a list.
-abbrev pub when : Bool → ℕ → ℕ
-when true n = n
-when false n = 0
+abbrev pub onlyIf : Bool → ℕ → ℕ
+onlyIf true n = n
+onlyIf false n = 0
 
-abbrev pub sum {ℓ} : {A : Type ℓ} → (A → ℕ) → List A → ℕ
-sum f [] = 0
-sum f (a ∷ l) = f a + sum f l
+abbrev pub sumOver {ℓ} : {A : Type ℓ} → (A → ℕ) → List A → ℕ
+sumOver f [] = 0
+sumOver f (a ∷ l) = f a + sumOver f l
 
 -- The states, each by itself.
 abbrev pub isOpen : State → Bool
@@ -101,21 +101,21 @@ abbrev pub waits : Money → State → Bool
 waits money Open = false
 waits money Posted = false
 waits money Paid = false
-waits money (Faulty fault k o) = of money k o
-waits money (Undelivered k) = of money k false
-waits money (Withdrawn k o) = of money k o
+waits money (Faulty fault k o) = byMoney money k o
+waits money (Undelivered k) = byMoney money k false
+waits money (Withdrawn k o) = byMoney money k o
 
 -- What an order is worth: its amount in K, F in O.
 abbrev pub worth : Money → ℕ → Row → ℕ
-worth money fee row = of money (row .amount .0) fee
+worth money fee row = byMoney money (row .amount .0) fee
 
 -- "Need: K is the sum of all amounts, faulty ones too; O is order count times F."
 unfoldable pub need : Money → Shipment → ℕ
-need K s = sum (λ (row : Row). row .amount .0) (s .rows)
+need K s = sumOver (λ (row : Row). row .amount .0) (s .rows)
 need O s = length (s .rows) * s .fee
 
 abbrev pub needOncePaired : Money → Shipment → ℕ
-needOncePaired money s = when (isPaired (s .stage)) (need money s)
+needOncePaired money s = onlyIf (isPaired (s .stage)) (need money s)
 
 -- "Free money is transfers accepted, less the need once Paired, less surplus returned."
 unfoldable pub free : Money → Shipment → ℕ
@@ -128,7 +128,7 @@ holds O state = isOpen state || waits O state
 
 -- "In other stages orders hold nothing."
 unfoldable pub held : Money → Shipment → ℕ
-held money s = when (isPaired (s .stage)) (sum (λ (row : Row). when (holds money (row .state)) (worth money (s .fee) row)) (s .rows))
+held money s = onlyIf (isPaired (s .stage)) (sumOver (λ (row : Row). onlyIf (holds money (row .state)) (worth money (s .fee) row)) (s .rows))
 
 unfoldable pub anyFaulty : List Row → Bool
 anyFaulty [] = false

@@ -11,11 +11,11 @@ use Rattle.money.specs.declared.Money.the-variants.{K, O}
 use Rattle.epe.specs.Ident.{identOf}
 use Rattle.epe.specs.declared.ident.Ident.{Ident}
 use Rattle.epe.specs.declared.profile.Profile.{Profile}
-use Rattle.model.specs.Shipment.{need, sum}
+use Rattle.model.specs.Shipment.{need, sumOver}
 use Rattle.model.specs.Calls.{GoAhead, Pair, OnOrder, Return, Call, Intake, Transfer, On}
 use Rattle.model.specs.Calls.{Answer, Refused, Done, Accepted, IsPaired, Short, FeeEarned, AmountPaid, Returned}
 use Rattle.model.specs.Book.{find, step}
-use Rattle.model.specs.Demand.{Event, bookAt, between, ofShipment, heldIn, freeIn, leftFor}
+use Rattle.model.specs.Demand.{Event, bookAt, eventsBetween, ofShipment, heldIn, freeIn, leftFor}
 use Rattle.model.specs.declared.Deed.the-variants.{Post, Pay, Withdraw}
 use Rattle.model.specs.declared.Route.the-variants.{Zwr, Opr, Zzr}
 
@@ -62,10 +62,10 @@ calls =
 
 -- The answers to n calls from point p on, and what the shipment comes to at a point.
 abbrev pub answers : ℕ → ℕ → List Answer
-answers p n = map (λ (event : Event). event .answer) (between calls p n)
+answers p n = map (λ (event : Event). event .answer) (eventsBetween calls p n)
 
 abbrev pub leftSoFar : Money → ℕ → ℕ
-leftSoFar money p = sum (leftFor money zs1) (between calls 0 p)
+leftSoFar money p = sumOver (leftFor money zs1) (eventsBetween calls 0 p)
 
 -- An intake into an empty book, as an answer.
 abbrev pub firstAnswer : String → String → Answer

@@ -7,7 +7,7 @@ use Prim.Native.Nat.{ℕ, _+_, _*_, _-_, _/_, _%_, _^_, _≤_, _<_}
 use native.Mathlib.Omega.{arith}
 use Rattle.money.specs.declared.Money.the-variants.{K, O}
 use lib.ListN.{getD}
-use Rattle.model.specs.Shipment.{isPaired, when, sum, holds}
+use Rattle.model.specs.Shipment.{isPaired, onlyIf, sumOver, holds}
 use Rattle.model.specs.declared.Row.{Row}
 use Rattle.memory.specs.Number.{numberAt}
 use Rattle.memory.specs.Layout.{headBytes, rowBytes}
@@ -18,34 +18,34 @@ use Rattle.sound.proofs.ReadLaws.{rows-many, rows-on, rows-done}
 use Rattle.book.specs.Place.{Sits}
 use Rattle.book.proofs.HeadFields.{orders-are, paired-is}
 use Rattle.sheet.specs.declared.row.Parts.{Parts}
-use Rattle.sheet.specs.Parts.{amountIn, heldIn, holderIn, noParts, withOrder, partsOf, partsOncePaired, Small}
+use Rattle.sheet.specs.Parts.{amountOfRow, heldByRow, holdersOfRow, noParts, withOrder, partsOf, partsOncePaired, Small}
 
-at-most : (t : Bool) (n : ℕ) → when t n ≤ n
+at-most : (t : Bool) (n : ℕ) → onlyIf t n ≤ n
 at-most true n = omega arith
 at-most false n = omega arith
 
 -- one order more, as code adds it
-k-held : (k o : Bool) (n : ℕ) → n * ((when k 1 + when o 2) % 2) ≡ when k n
+k-held : (k o : Bool) (n : ℕ) → n * ((onlyIf k 1 + onlyIf o 2) % 2) ≡ onlyIf k n
 k-held true true n = omega arith
 k-held true false n = omega arith
 k-held false true n = omega arith
 k-held false false n = omega arith
 
-o-held : (k o : Bool) → (when k 1 + when o 2) / 2 ≡ when o 1
+o-held : (k o : Bool) → (onlyIf k 1 + onlyIf o 2) / 2 ≡ onlyIf o 1
 o-held true true = refl
 o-held true false = refl
 o-held false true = refl
 o-held false false = refl
 
-module _ (parts : Parts) (row : Row) {amount holding : ℕ} (amount-is : amount ≡ amountIn row) (holding-is : holding ≡ holdingOf (row .state)) where
-  held-in : amount * (holding % 2) ≡ heldIn row
-  held-in = (λ t. amount-is t * (holding-is t % 2)) ∙ k-held (holds K (row .state)) (holds O (row .state)) (amountIn row)
+module _ (parts : Parts) (row : Row) {amount holding : ℕ} (amount-is : amount ≡ amountOfRow row) (holding-is : holding ≡ holdingOf (row .state)) where
+  held-in : amount * (holding % 2) ≡ heldByRow row
+  held-in = (λ t. amount-is t * (holding-is t % 2)) ∙ k-held (holds K (row .state)) (holds O (row .state)) (amountOfRow row)
 
-  holder-in : holding / 2 ≡ holderIn row
+  holder-in : holding / 2 ≡ holdersOfRow row
   holder-in = ap (λ n. n / 2) holding-is ∙ o-held (holds K (row .state)) (holds O (row .state))
 
   pub held-most : amount * (holding % 2) ≤ amount
-  held-most = omega (arith, held-in, amount-is, at-most (holds K (row .state)) (amountIn row))
+  held-most = omega (arith, held-in, amount-is, at-most (holds K (row .state)) (amountOfRow row))
 
   pub order-added : record {
     orders = parts .orders + 1;
@@ -64,9 +64,9 @@ module _ (parts : Parts) (row : Row) {amount holding : ℕ} (amount-is : amount 
 pub record Going (m : List ℕ) (k n : ℕ) (parts : Parts) (i left : ℕ) : Type 0 where
   pub place : i + left ≡ k + n
   pub orders : parts .orders + left ≡ n
-  pub amounts : parts .amounts + sum amountIn (rowsFrom m i left) ≡ sum amountIn (rowsFrom m k n)
-  pub held : parts .held + sum heldIn (rowsFrom m i left) ≡ sum heldIn (rowsFrom m k n)
-  pub holders : parts .holders + sum holderIn (rowsFrom m i left) ≡ sum holderIn (rowsFrom m k n)
+  pub amounts : parts .amounts + sumOver amountOfRow (rowsFrom m i left) ≡ sumOver amountOfRow (rowsFrom m k n)
+  pub held : parts .held + sumOver heldByRow (rowsFrom m i left) ≡ sumOver heldByRow (rowsFrom m k n)
+  pub holders : parts .holders + sumOver holdersOfRow (rowsFrom m i left) ≡ sumOver holdersOfRow (rowsFrom m k n)
   pub amounts-low : parts .amounts + left * 2 ^ 32 ≤ n * 2 ^ 32
   pub held-low : parts .held ≤ parts .amounts
   pub holders-low : parts .holders ≤ parts .orders
@@ -97,26 +97,26 @@ module _ {m : List ℕ} {k n : ℕ} where
         → next .amounts < parts .amounts + 2 ^ 32 → Going m k n next (i + 1) (left - 1)
     one-more {row} {next} more row-is next-is most =
         let here = rowOf row in
-        let low : amountIn here < 2 ^ 32 = omega (arith, ap (λ (p : Parts). p .amounts) next-is, most) in
+        let low : amountOfRow here < 2 ^ 32 = omega (arith, ap (λ (p : Parts). p .amounts) next-is, most) in
         let is : (f : Row → ℕ) → f here ≡ f (rowOf (rowBytes m i)) = λ f. ap (λ r. f (rowOf r)) row-is in
         rw next-is
         (record {
           place = omega (arith, going .place);
           orders = omega (arith, going .orders);
-          amounts = omega (arith, going .amounts, ap (sum amountIn) (rows-on m i left more), is amountIn);
-          held = omega (arith, going .held, ap (sum heldIn) (rows-on m i left more), is heldIn);
-          holders = omega (arith, going .holders, ap (sum holderIn) (rows-on m i left more), is holderIn);
+          amounts = omega (arith, going .amounts, ap (sumOver amountOfRow) (rows-on m i left more), is amountOfRow);
+          held = omega (arith, going .held, ap (sumOver heldByRow) (rows-on m i left more), is heldByRow);
+          holders = omega (arith, going .holders, ap (sumOver holdersOfRow) (rows-on m i left more), is holdersOfRow);
           amounts-low = omega (arith, going .amounts-low, low);
-          held-low = omega (arith, going .held-low, at-most (holds K (here .state)) (amountIn here));
+          held-low = omega (arith, going .held-low, at-most (holds K (here .state)) (amountOfRow here));
           holders-low = omega (arith, going .holders-low, at-most (holds O (here .state)) 1);
         })
 
     pub all-added : left ≤ 0 → parts ≡ partsOf (rowsFrom m k n)
     all-added done =
         let orders-are : parts .orders ≡ n = omega (arith, going .orders) in
-        let amounts-are : parts .amounts ≡ sum amountIn (rowsFrom m k n) = omega (arith, going .amounts, ap (sum amountIn) (rows-done m i left done)) in
-        let held-are : parts .held ≡ sum heldIn (rowsFrom m k n) = omega (arith, going .held, ap (sum heldIn) (rows-done m i left done)) in
-        let holders-are : parts .holders ≡ sum holderIn (rowsFrom m k n) = omega (arith, going .holders, ap (sum holderIn) (rows-done m i left done)) in
+        let amounts-are : parts .amounts ≡ sumOver amountOfRow (rowsFrom m k n) = omega (arith, going .amounts, ap (sumOver amountOfRow) (rows-done m i left done)) in
+        let held-are : parts .held ≡ sumOver heldByRow (rowsFrom m k n) = omega (arith, going .held, ap (sumOver heldByRow) (rows-done m i left done)) in
+        let holders-are : parts .holders ≡ sumOver holdersOfRow (rowsFrom m k n) = omega (arith, going .holders, ap (sumOver holdersOfRow) (rows-done m i left done)) in
         let counted = orders-are ∙ sym (rows-many m k n) in
         λ t. record { orders = counted t; amounts = amounts-are t; held = held-are t; holders = holders-are t }
 

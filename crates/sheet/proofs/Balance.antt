@@ -8,7 +8,7 @@ use native.Mathlib.Omega.{arith}
 use lib.ListN.{length}
 use Rattle.money.specs.declared.Money.{Money}
 use Rattle.money.specs.declared.Money.the-variants.{K, O}
-use Rattle.model.specs.Shipment.{Shipment, accepted, isPaired, when, sum, worth, need, free, holds, held}
+use Rattle.model.specs.Shipment.{Shipment, accepted, isPaired, onlyIf, sumOver, worth, need, free, holds, held}
 use Rattle.model.specs.Sound.{beforePairing, rowSound, rowsSound, shipmentSound}
 use Rattle.model.specs.declared.Row.{Row}
 use Rattle.model.specs.declared.State.{State}
@@ -18,7 +18,7 @@ use Rattle.sheet.specs.Sheet.{isOut, waitsNoMore, left, Balances}
 
 -- an order's worth is held, is out, or waits no more
 shared : (money : Money) (state : State) (n : ℕ)
-    → when (holds money state) n + when (isOut money state) n + when (waitsNoMore money state) n ≡ n
+    → onlyIf (holds money state) n + onlyIf (isOut money state) n + onlyIf (waitsNoMore money state) n ≡ n
 shared K Open n = omega arith
 shared K Posted n = omega arith
 shared K Paid n = omega arith
@@ -38,17 +38,17 @@ shared O (Withdrawn k true) n = omega arith
 shared O (Withdrawn k false) n = omega arith
 
 -- the worth of all orders is the need
-all-needed : (money : Money) (s : Shipment) → sum (λ (row : Row). worth money (s .fee) row) (s .rows) ≡ need money s
+all-needed : (money : Money) (s : Shipment) → sumOver (λ (row : Row). worth money (s .fee) row) (s .rows) ≡ need money s
 unfolding need
 all-needed K s = refl
 all-needed O s = go (s .rows)
   where
-    go : (rows : List Row) → sum (λ (row : Row). s .fee) rows ≡ length rows * s .fee
+    go : (rows : List Row) → sumOver (λ (row : Row). s .fee) rows ≡ length rows * s .fee
     go [] = omega arith
     go (row ∷ rows) = let rest = go rows in omega arith
 
 -- before pairing no order's money is out
-none-out : (money : Money) (state : State) (n : ℕ) → beforePairing state ≡ true → when (isOut money state) n ≡ 0
+none-out : (money : Money) (state : State) (n : ℕ) → beforePairing state ≡ true → onlyIf (isOut money state) n ≡ 0
 none-out K Open n h = refl
 none-out K Posted n h = absurd (false≢true h)
 none-out K Paid n h = absurd (false≢true h)
@@ -64,11 +64,11 @@ none-out O (Withdrawn k o) n h = absurd (false≢true h)
 
 module _ (money : Money) (s : Shipment) where
   abbrev those : (State → Bool) → Row → ℕ
-  those test row = when (test (row .state)) (worth money (s .fee) row)
+  those test row = onlyIf (test (row .state)) (worth money (s .fee) row)
 
   shared-all : (rows : List Row)
-      → sum (those (holds money)) rows + sum (those (isOut money)) rows + sum (those (waitsNoMore money)) rows
-      ≡ sum (λ (row : Row). worth money (s .fee) row) rows
+      → sumOver (those (holds money)) rows + sumOver (those (isOut money)) rows + sumOver (those (waitsNoMore money)) rows
+      ≡ sumOver (λ (row : Row). worth money (s .fee) row) rows
   shared-all [] = refl
   shared-all (row ∷ rows) =
       let here = shared money (row .state) (worth money (s .fee) row) in
@@ -82,7 +82,7 @@ module _ (money : Money) (s : Shipment) where
       let either : (isPaired (s .stage) || beforePairing (row .state)) ≡ true = search halves in
       rw unpaired at either
 
-  none-out-of-all : isPaired (s .stage) ≡ false → (rows : List Row) → rowsSound (s .stage) rows ≡ true → sum (those (isOut money)) rows ≡ 0
+  none-out-of-all : isPaired (s .stage) ≡ false → (rows : List Row) → rowsSound (s .stage) rows ≡ true → sumOver (those (isOut money)) rows ≡ 0
   unfolding rowsSound
   none-out-of-all unpaired [] h = refl
   none-out-of-all unpaired (row ∷ rows) h =

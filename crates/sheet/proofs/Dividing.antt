@@ -9,7 +9,7 @@ use native.Mathlib.Nat.{mul-comm}
 use lib.ListN.{length}
 use Rattle.money.specs.declared.Money.{Money}
 use Rattle.money.specs.declared.Money.the-variants.{K, O}
-use Rattle.model.specs.Shipment.{Shipment, accepted, returned, isPaired, when, sum, need, needOncePaired, free, holds, held}
+use Rattle.model.specs.Shipment.{Shipment, accepted, returned, isPaired, onlyIf, sumOver, need, needOncePaired, free, holds, held}
 use Rattle.model.specs.Sound.{shipmentSound}
 use Rattle.model.specs.declared.Row.{Row}
 use Rattle.model.proofs.SoundParts.{in-order}
@@ -22,15 +22,15 @@ use Rattle.book.proofs.HeadFields.{accepted-is, returned-is}
 use Rattle.sheet.specs.declared.row.Parts.{Parts}
 use Rattle.sheet.specs.declared.row.Division.{Division}
 use Rattle.sheet.specs.Sheet.{left}
-use Rattle.sheet.specs.Parts.{holderIn, noParts, partsOf, partsOncePaired, divided, divisionOf}
+use Rattle.sheet.specs.Parts.{holdersOfRow, noParts, partsOf, partsOncePaired, divided, divisionOf}
 use Rattle.sheet.proofs.Balance.{balances}
 
 -- the fee as often as orders hold it
-fees-held-in : (fee : ℕ) (rows : List Row) → fee * sum holderIn rows ≡ sum (λ (row : Row). when (holds O (row .state)) fee) rows
+fees-held-in : (fee : ℕ) (rows : List Row) → fee * sumOver holdersOfRow rows ≡ sumOver (λ (row : Row). onlyIf (holds O (row .state)) fee) rows
 fees-held-in fee [] = omega arith
-fees-held-in fee (row ∷ rows) = by (holds O (row .state)) (sum holderIn rows) (fees-held-in fee rows)
+fees-held-in fee (row ∷ rows) = by (holds O (row .state)) (sumOver holdersOfRow rows) (fees-held-in fee rows)
   where
-    by : (t : Bool) (n : ℕ) {total : ℕ} → fee * n ≡ total → fee * (when t 1 + n) ≡ when t fee + total
+    by : (t : Bool) (n : ℕ) {total : ℕ} → fee * n ≡ total → fee * (onlyIf t 1 + n) ≡ onlyIf t fee + total
     by true n rest = omega (arith, rest)
     by false n rest = let same : 0 + n ≡ n = omega arith in rw same (omega (arith, rest))
 

@@ -12,7 +12,7 @@ use Rattle.sheet.specs.declared.Sheeting.{Sheeting}
 use Rattle.sheet.specs.declared.Sheeting.the-variants.{Filled, Refused}
 use Rattle.sheet.specs.declared.SheetRow.{SheetRow}
 use Rattle.sheet.specs.declared.Totals.{Totals}
-use Rattle.sheet.specs.Sheet.{amount, fee, left, rowFor, plusAll, withinCap, ask, sheetOf}
+use Rattle.sheet.specs.Sheet.{amount, fee, left, rowFor, plusAll, withinCap, askSheet, sheetOf}
 use Rattle.sheet.specs.Zs1.{Zs1Sheet}
 
 pub zs1-sheet : Zs1Sheet
@@ -34,7 +34,7 @@ answerTo book n = sheetOf book [] (withLeft n) .answer
 asked : answerTo none 0 ∷ answerTo (some []) 999_999_999_999_999 ∷ answerTo (some []) 1_000_000_000_000_000
     ∷ answerTo (some (bookAt calls 17)) 0 ∷ answerTo (some (bookAt calls 17)) 1_000_000_000_000_000 ∷ []
     ≡ Refused 10 ∷ Filled 0 ∷ Refused 26 ∷ Refused 25 ∷ Refused 25 ∷ []
-unfolding stepped zs1 left rowFor plusAll withinCap ask sheetOf
+unfolding stepped zs1 left rowFor plusAll withinCap askSheet sheetOf
 asked = refl
 
 abbrev blank : SheetRow
@@ -43,5 +43,5 @@ blank = record { ident = zs1; amounts = withLeft 0 .amounts; fees = withLeft 0 .
 -- O left of 1,050 more: 999,999,999,998,949 comes to the cap, and one grosz more passes it
 asked-with-row : map (λ n. sheetOf (some (bookAt calls 17)) (blank ∷ []) (withLeft n) .answer) (999_999_999_998_949 ∷ 999_999_999_998_950 ∷ [])
     ≡ Filled 1 ∷ Refused 26 ∷ []
-unfolding stepped zs1 left rowFor plusAll withinCap ask sheetOf
+unfolding stepped zs1 left rowFor plusAll withinCap askSheet sheetOf
 asked-with-row = refl

@@ -5,7 +5,7 @@ use Prim.Native.Nat.{ℕ, _+_, _-_, _≤_}
 use lib.ListN.{length}
 use Rattle.money.specs.declared.Money.{Money}
 use Rattle.money.specs.declared.Money.the-variants.{K, O}
-use Rattle.model.specs.Shipment.{Shipment, accepted, isPaired, when, sum, free, holds, held}
+use Rattle.model.specs.Shipment.{Shipment, accepted, isPaired, onlyIf, sumOver, free, holds, held}
 use Rattle.model.specs.declared.Row.{Row}
 use Rattle.sheet.specs.declared.Amounts.{Amounts}
 use Rattle.sheet.specs.declared.Fees.{Fees}
@@ -13,14 +13,14 @@ use Rattle.sheet.specs.declared.row.Parts.{Parts}
 use Rattle.sheet.specs.declared.row.Division.{Division}
 use Rattle.sheet.specs.Sheet.{left, amount, fee}
 
-abbrev pub amountIn : Row → ℕ
-amountIn row = row .amount .0
+abbrev pub amountOfRow : Row → ℕ
+amountOfRow row = row .amount .0
 
-abbrev pub heldIn : Row → ℕ
-heldIn row = when (holds K (row .state)) (row .amount .0)
+abbrev pub heldByRow : Row → ℕ
+heldByRow row = onlyIf (holds K (row .state)) (row .amount .0)
 
-abbrev pub holderIn : Row → ℕ
-holderIn row = when (holds O (row .state)) 1
+abbrev pub holdersOfRow : Row → ℕ
+holdersOfRow row = onlyIf (holds O (row .state)) 1
 
 -- The orders of a Paired shipment: how many, all amounts, the amounts held, and how many hold a fee.
 abbrev pub noParts : Parts
@@ -29,13 +29,13 @@ noParts = record { orders = 0; amounts = 0; held = 0; holders = 0 }
 abbrev pub withOrder : Parts → Row → Parts
 withOrder parts row = record {
   orders = parts .orders + 1;
-  amounts = parts .amounts + amountIn row;
-  held = parts .held + heldIn row;
-  holders = parts .holders + holderIn row;
+  amounts = parts .amounts + amountOfRow row;
+  held = parts .held + heldByRow row;
+  holders = parts .holders + holdersOfRow row;
 }
 
 abbrev pub partsOf : List Row → Parts
-partsOf rows = record { orders = length rows; amounts = sum amountIn rows; held = sum heldIn rows; holders = sum holderIn rows }
+partsOf rows = record { orders = length rows; amounts = sumOver amountOfRow rows; held = sumOver heldByRow rows; holders = sumOver holdersOfRow rows }
 
 -- In other stages nothing is needed or held.
 unfoldable pub partsOncePaired : Shipment → Parts

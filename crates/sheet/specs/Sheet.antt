@@ -11,12 +11,12 @@ use Rattle.money.specs.declared.Fee.{Fee}
 use Rattle.money.specs.declared.Money.{Money}
 use Rattle.money.specs.declared.Money.the-variants.{K, O}
 use Rattle.epe.specs.declared.ident.Ident.{Ident}
-use Rattle.model.specs.Shipment.{Shipment, accepted, returned, isPaired, when, sum, isPosted, isFaulty, isUndelivered, isWithdrawn}
+use Rattle.model.specs.Shipment.{Shipment, accepted, returned, isPaired, onlyIf, sumOver, isPosted, isFaulty, isUndelivered, isWithdrawn}
 use Rattle.model.specs.Shipment.{waits, worth, free, held}
 use Rattle.model.specs.Calls.{Call}
 use Rattle.model.specs.Book.{Book, find}
 use Rattle.model.specs.Sound.{shipmentSound}
-use Rattle.model.specs.Demand.{bookAt, between, leftFor, ofShipment}
+use Rattle.model.specs.Demand.{bookAt, eventsBetween, leftFor, ofShipment}
 use Rattle.model.specs.declared.Row.{Row}
 use Rattle.model.specs.declared.State.{State}
 use Rattle.model.specs.declared.State.the-variants.{Open, Posted, Paid, Faulty, Undelivered, Withdrawn}
@@ -50,11 +50,11 @@ waitsNoMore money state = canWait money state && not (waits money state)
 
 -- What the orders that pass a test are worth.
 abbrev pub worthWhere : (State → Bool) → Money → Shipment → ℕ
-worthWhere test money s = sum (λ (row : Row). when (test (row .state)) (worth money (s .fee) row)) (s .rows)
+worthWhere test money s = sumOver (λ (row : Row). onlyIf (test (row .state)) (worth money (s .fee) row)) (s .rows)
 
 -- ".. in a Paired shipment .., plus K surplus returned .., plus O surplus returned."
 unfoldable pub left : Money → Shipment → ℕ
-left money s = worthWhere (isOut money) money s + when (isPaired (s .stage)) (worthWhere (waitsNoMore money) money s) + returned money s
+left money s = worthWhere (isOut money) money s + onlyIf (isPaired (s .stage)) (worthWhere (waitsNoMore money) money s) + returned money s
 
 -- "The sheet fills a lent table, one row per shipment: identifier; accepted, held, free, left, for K and for O."
 abbrev pub amount : ℕ → Amount
@@ -115,16 +115,16 @@ pub record Sheet : Type 0 where
   pub totals : Totals
 
 -- A question: "no" answers its number and leaves the table and the totals as they were.
-unfoldable pub ask : Bool → ℕ → List SheetRow → Totals → Sheet → Sheet
-ask true number table totals next = next
-ask false number table totals next = record { answer = Refused number; table = table; totals = totals }
+unfoldable pub askSheet : Bool → ℕ → List SheetRow → Totals → Sheet → Sheet
+askSheet true number table totals next = next
+askSheet false number table totals next = record { answer = Refused number; table = table; totals = totals }
 
 -- "After 10: table has a row for each shipment? 25. After adding, no total above 999,999,999,999,999? 26. Rows past the last are untouched."
 unfoldable pub sheetOf : Option Book → List SheetRow → Totals → Sheet
 sheetOf none table totals = record { answer = Refused 10; table = table; totals = totals }
 sheetOf (some book) table totals =
-    ask (leb (length book) (length table)) 25 table totals
-    (ask (withinCap (plusAll totals (map rowFor book))) 26 table totals
+    askSheet (leb (length book) (length table)) 25 table totals
+    (askSheet (withinCap (plusAll totals (map rowFor book))) 26 table totals
     (record {
       answer = Filled (length book);
       table = map rowFor book ++ drop (length book) table;
@@ -139,4 +139,4 @@ Balances = (money : Money) (s : Shipment) → shipmentSound s ≡ true → accep
 -- list of calls from an empty book.
 abbrev pub LeftAsAnswered : Type 0
 LeftAsAnswered = (calls : List Call) (p : ℕ) (ident : Ident) (money : Money)
-    → ofShipment (left money) (find ident (bookAt calls p)) ≡ sum (leftFor money ident) (between calls 0 p)
+    → ofShipment (left money) (find ident (bookAt calls p)) ≡ sumOver (leftFor money ident) (eventsBetween calls 0 p)

@@ -81,7 +81,7 @@ const NO_ROOM: u64 = 25;
 const ABOVE_CAP: u64 = 26;
 
 // Asks the questions of a sheet whose table has so many rows, and adds up.
-fn ask(book: &[u8], room: usize, totals: Totals) -> Plan
+fn plan_sheet(book: &[u8], room: usize, totals: Totals) -> Plan
     ensures { λ r. ⌜ r ≡ planOf (readBook (now (book .entry))) room totals ⌝ }
 {
     if !is_sound(book) {
@@ -161,7 +161,7 @@ fn fill(table: &mut [SheetRow], book: &[u8], n: usize)
 fn add_rows(totals: &mut Totals, book: &[u8], room: usize) -> u64
     ensures { λ r. ⌜ (r ≡ planOf (readBook (now (book .entry))) room (now (totals .entry)) .number) × (now (totals .exit) ≡ planOf (readBook (now (book .entry))) room (now (totals .entry)) .totals) ⌝ }
 {
-    let plan = ask(book, room, *totals);
+    let plan = plan_sheet(book, room, *totals);
     *totals = plan.totals;
     plan.number
 }

@@ -12,7 +12,7 @@ use lib.Dec.{eqb, ltb}
 use Rattle.text.specs.Bytes.{between}
 use Rattle.text.proofs.Branches.{both-yes, both-ways, either-way}
 use Rattle.money.specs.Money.{orderCap}
-use Rattle.model.specs.Shipment.{isPaired, when, sum, isFaulty, anyFaulty}
+use Rattle.model.specs.Shipment.{isPaired, onlyIf, sumOver, isFaulty, anyFaulty}
 use Rattle.model.specs.Sound.{faultInRange, beforePairing, rowSound, rowsSound}
 use Rattle.model.specs.declared.Row.{Row}
 use Rattle.model.specs.declared.Stage.{Stage}
@@ -40,7 +40,7 @@ join-low false a b = or-lt 1 a b
 
 -- the questions of one state
 abbrev classed : Bool → Bool → Bool → ℕ
-classed faulty fault before = when faulty 1 + (when (not before) 2 + when (not fault) 4)
+classed faulty fault before = onlyIf faulty 1 + (onlyIf (not before) 2 + onlyIf (not fault) 4)
 
 class-fits : (faulty fault before paired : Bool) → ltb (classed faulty fault before) (cond paired 4 2) ≡ (fault && (paired || before))
 class-fits true true true true = refl
@@ -71,7 +71,7 @@ class-faulty false false true = refl
 class-faulty false false false = refl
 
 -- the amount's
-none-out : (t : Bool) → when (not t) 1 ≡ 0 → t ≡ true
+none-out : (t : Bool) → onlyIf (not t) 1 ≡ 0 → t ≡ true
 none-out true h = refl
 none-out false h = absurd (omega arith)
 
@@ -83,14 +83,14 @@ module _ (stage : Stage) (paired : Bool) (e : isPaired stage ≡ paired) where
   unfolding rowSound
   row-low row h =
       let fits : between 1 orderCap (row .amount .0) ≡ true = search halves in
-      (ltb-true _ _ (state-fits (row .state) ∙ search halves), ap (λ t. when (not t) 1) fits)
+      (ltb-true _ _ (state-fits (row .state) ∙ search halves), ap (λ t. onlyIf (not t) 1) fits)
 
   low-row : (row : Row) → classOf (row .state) < cond paired 4 2 → outIn row ≡ 0 → rowSound stage row ≡ true
   unfolding rowSound
   low-row row low fits = both-yes _ _ (none-out (between 1 orderCap (row .amount .0)) fits) (sym (state-fits (row .state)) ∙ lt-ltb _ _ low)
 
   rows-low : (classes : ℕ) (rows : List Row) → classes < cond paired 4 2 → rowsSound stage rows ≡ true
-      → (joined classes rows < cond paired 4 2) × (sum outIn rows ≡ 0)
+      → (joined classes rows < cond paired 4 2) × (sumOver outIn rows ≡ 0)
   unfolding rowsSound
   rows-low classes [] low h = (low, refl)
   rows-low classes (row ∷ rows) low h =
@@ -98,7 +98,7 @@ module _ (stage : Stage) (paired : Bool) (e : isPaired stage ≡ paired) where
       let rest = rows-low _ rows (join-low paired classes (classOf (row .state)) low (first .0)) (search halves) in
       (rest .0, omega (arith, first .1, rest .1))
 
-  low-rows : (classes : ℕ) (rows : List Row) → joined classes rows < cond paired 4 2 → sum outIn rows ≡ 0 → rowsSound stage rows ≡ true
+  low-rows : (classes : ℕ) (rows : List Row) → joined classes rows < cond paired 4 2 → sumOver outIn rows ≡ 0 → rowsSound stage rows ≡ true
   unfolding rowsSound
   low-rows classes [] low fits = refl
   low-rows classes (row ∷ rows) low fits =
@@ -123,21 +123,21 @@ fit-low paired classes out h = by (ltb 0 out) refl paired h
     by false none true h = (ltb-true classes 4 h, omega (arith, ltb-false 0 out none))
     by false none false h = (ltb-true classes 2 h, omega (arith, ltb-false 0 out none))
 
-pub rows-fit : (stage : Stage) (rows : List Row) → rowsSound stage rows ≡ fit (isPaired stage) (joined 0 rows) (sum outIn rows)
+pub rows-fit : (stage : Stage) (rows : List Row) → rowsSound stage rows ≡ fit (isPaired stage) (joined 0 rows) (sumOver outIn rows)
 rows-fit stage rows = by (isPaired stage) refl
   where
     begin : (paired : Bool) → 0 < cond paired 4 2
     begin true = omega arith
     begin false = omega arith
 
-    by : (paired : Bool) → isPaired stage ≡ paired → rowsSound stage rows ≡ fit paired (joined 0 rows) (sum outIn rows)
+    by : (paired : Bool) → isPaired stage ≡ paired → rowsSound stage rows ≡ fit paired (joined 0 rows) (sumOver outIn rows)
     by paired e =
         both-ways _ _
         (λ h.
         let low = rows-low stage paired e 0 rows (begin paired) h in
-        low-fit paired (joined 0 rows) (sum outIn rows) (low .0) (low .1))
+        low-fit paired (joined 0 rows) (sumOver outIn rows) (low .0) (low .1))
         (λ h.
-        let low = fit-low paired (joined 0 rows) (sum outIn rows) h in
+        let low = fit-low paired (joined 0 rows) (sumOver outIn rows) h in
         low-rows stage paired e 0 rows (low .0) (low .1))
 
 -- the lowest bit

@@ -9,7 +9,7 @@ use native.Mathlib.Omega.{arith}
 use lib.Bits.{bitOr}
 use Rattle.text.specs.Bytes.{between}
 use Rattle.money.specs.Money.{orderCap}
-use Rattle.model.specs.Shipment.{when, sum}
+use Rattle.model.specs.Shipment.{onlyIf, sumOver}
 use Rattle.model.specs.declared.Row.{Row}
 use Rattle.memory.specs.Layout.{rowBytes}
 use Rattle.memory.specs.Rows.{rowOf, classOf}
@@ -22,7 +22,7 @@ abbrev amountIn : Row → ℕ
 amountIn row = row .amount .0
 
 -- an amount out of range, as code counts it
-pub flag-low : (t : Bool) → (boolByte t ≡ when t 1) × (when t 1 ≤ 1)
+pub flag-low : (t : Bool) → (boolByte t ≡ onlyIf t 1) × (onlyIf t 1 ≤ 1)
 flag-low true = (refl, omega arith)
 flag-low false = (refl, omega arith)
 
@@ -30,7 +30,7 @@ flag-low false = (refl, omega arith)
 module _ (tally : Tally) (row : Row) (class amount : ℕ) (fits : Bool) (class-is : class ≡ classOf (row .state)) (amount-is : amount ≡ amountIn row)
     (fits-is : fits ≡ between 1 orderCap amount) where
   out-is : boolByte (not fits) ≡ outIn row
-  out-is = flag-low (not fits) .0 ∙ ap (λ t. when (not t) 1) (fits-is ∙ ap (between 1 orderCap) amount-is)
+  out-is = flag-low (not fits) .0 ∙ ap (λ t. onlyIf (not t) 1) (fits-is ∙ ap (between 1 orderCap) amount-is)
 
   pub row-next : record { classes = bitOr (tally .classes) class; amounts = tally .amounts + amount; out = tally .out + boolByte (not fits) }
       ≡ tallied tally row
@@ -40,8 +40,8 @@ module _ (tally : Tally) (row : Row) (class amount : ℕ) (fits : Bool) (class-i
 pub record Tallying (m : List ℕ) (k n : ℕ) (tally : Tally) (i left : ℕ) : Type 0 where
   pub place : i + left ≡ k + n
   pub classes : joined (tally .classes) (rowsFrom m i left) ≡ joined 0 (rowsFrom m k n)
-  pub amounts : tally .amounts + sum amountIn (rowsFrom m i left) ≡ sum amountIn (rowsFrom m k n)
-  pub out : tally .out + sum outIn (rowsFrom m i left) ≡ sum outIn (rowsFrom m k n)
+  pub amounts : tally .amounts + sumOver amountIn (rowsFrom m i left) ≡ sumOver amountIn (rowsFrom m k n)
+  pub out : tally .out + sumOver outIn (rowsFrom m i left) ≡ sumOver outIn (rowsFrom m k n)
   pub amounts-low : tally .amounts + left * 2 ^ 32 ≤ n * 2 ^ 32
   pub out-low : tally .out + left ≤ n
 
@@ -62,8 +62,8 @@ module _ {m : List ℕ} {k n : ℕ} where
           classes = ap (λ t. joined (t .classes) (rowsFrom m (i + 1) (left - 1))) next-there
               ∙ ap (joined (tally .classes)) (sym (rows-on m i left more))
               ∙ going .classes;
-          amounts = omega (arith, ap (sum amountIn) (rows-on m i left more));
-          out = omega (arith, ap (sum outIn) (rows-on m i left more));
+          amounts = omega (arith, ap (sumOver amountIn) (rows-on m i left more));
+          out = omega (arith, ap (sumOver outIn) (rows-on m i left more));
           amounts-low = omega arith;
           out-low = omega (arith, flag-low (not (between 1 orderCap (amountIn here))) .1);
         }
@@ -71,6 +71,6 @@ module _ {m : List ℕ} {k n : ℕ} where
     pub tally-done : left ≤ 0 → (tally ≡ tallyOf (rowsFrom m k n)) × (tally .amounts ≤ n * 2 ^ 32)
     tally-done done =
         let classes-are : tally .classes ≡ joined 0 (rowsFrom m k n) = ap (joined (tally .classes)) (sym (rows-done m i left done)) ∙ going .classes in
-        let amounts-are : tally .amounts ≡ sum amountIn (rowsFrom m k n) = omega (arith, ap (sum amountIn) (rows-done m i left done)) in
-        let out-are : tally .out ≡ sum outIn (rowsFrom m k n) = omega (arith, ap (sum outIn) (rows-done m i left done)) in
+        let amounts-are : tally .amounts ≡ sumOver amountIn (rowsFrom m k n) = omega (arith, ap (sumOver amountIn) (rows-done m i left done)) in
+        let out-are : tally .out ≡ sumOver outIn (rowsFrom m k n) = omega (arith, ap (sumOver outIn) (rows-done m i left done)) in
         ((λ t. record { classes = classes-are t; amounts = amounts-are t; out = out-are t }), omega arith)

@@ -11,7 +11,7 @@ use Rattle.money.specs.Money.{orderCap, sumCap}
 use Rattle.money.specs.declared.Money.{Money}
 use Rattle.money.specs.declared.Money.the-variants.{K, O}
 use Rattle.epe.specs.Name.{nameInForm}
-use Rattle.model.specs.Shipment.{isWaiting, isPaired, when, sum}
+use Rattle.model.specs.Shipment.{isWaiting, isPaired, onlyIf, sumOver}
 use Rattle.model.specs.Sound.{shipmentSound}
 use Rattle.model.specs.declared.Row.{Row}
 use Rattle.memory.specs.Number.{numberAt}
@@ -21,7 +21,7 @@ use Rattle.sound.specs.declared.tally.Tally.{Tally}
 
 -- A row joins its state's class, and counts where its amount is out of range.
 abbrev pub outIn : Row → ℕ
-outIn row = when (not (between 1 orderCap (row .amount .0))) 1
+outIn row = onlyIf (not (between 1 orderCap (row .amount .0))) 1
 
 abbrev pub tallied : Tally → Row → Tally
 tallied tally row = record {
@@ -36,7 +36,7 @@ joined classes [] = classes
 joined classes (row ∷ rows) = joined (bitOr classes (classOf (row .state))) rows
 
 abbrev pub tallyOf : List Row → Tally
-tallyOf rows = record { classes = joined 0 rows; amounts = sum (λ (row : Row). row .amount .0) rows; out = sum outIn rows }
+tallyOf rows = record { classes = joined 0 rows; amounts = sumOver (λ (row : Row). row .amount .0) rows; out = sumOver outIn rows }
 
 -- The lowest bit is that of Faulty rows.
 abbrev pub faultyIn : Tally → Bool
@@ -62,7 +62,7 @@ sumsFit accepted returned need waiting =
 
 unfoldable pub moneyFits : List ℕ → Money → ℕ → Bool
 moneyFits head money need =
-    sumsFit (numberAt 8 head (acceptedAt money)) (numberAt 8 head (returnedAt money)) (when (pairedIn head) need) (waitingIn head)
+    sumsFit (numberAt 8 head (acceptedAt money)) (numberAt 8 head (returnedAt money)) (onlyIf (pairedIn head) need) (waitingIn head)
 
 unfoldable pub moneysFit : List ℕ → ℕ → Tally → Bool
 moneysFit head n tally = moneyFits head K (tally .amounts) && moneyFits head O (n * numberAt 4 head 24)

@@ -22,7 +22,7 @@ ghost use Prim.Native.Nat.{_*_, _≤_, _<_, _^_};
 ghost use lib.Dec.{leb};
 ghost use lib.ListN.{length};
 ghost use Rattle.money.specs.Money.{orderCap};
-ghost use Rattle.model.specs.Shipment.{when};
+ghost use Rattle.model.specs.Shipment.{onlyIf};
 ghost use Rattle.memory.specs.Number.{numberAt};
 ghost use Rattle.memory.specs.Layout.{size};
 ghost use Rattle.memory.specs.Rows.{classTable};
@@ -77,7 +77,7 @@ pub fn fees(head: &[u8], n: u64) -> u64
 // What is needed once the shipment is Paired, and nothing before.
 fn need_once_paired(head: &[u8], need: u64) -> u64
     requires { ⌜ length (now head) ≡ 64 ⌝ }
-    ensures { λ r. ⌜ (r ≡ when (pairedIn (now (head .entry))) need) × (r ≤ need) ⌝ }
+    ensures { λ r. ⌜ (r ≡ onlyIf (pairedIn (now (head .entry))) need) × (r ≤ need) ⌝ }
 {
     if is_paired(head) {
         return need;

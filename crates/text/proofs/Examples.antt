@@ -5,7 +5,7 @@ use mathlib.Core.Bool.{true, false}
 use mathlib.Core.List.{List, [], _∷_, map}
 use Prim.Native.Nat.{ℕ}
 use lib.ListN.{replicate}
-use Rattle.text.specs.Bytes.{digit, letter, holds}
+use Rattle.text.specs.Bytes.{digit, letter, hasByte}
 use Rattle.text.specs.Number.{numberAfter, number}
 use Rattle.text.specs.Fields.{onto, fields, cutsFrom, cutTable, cutCount, fieldBy}
 use Rattle.text.specs.Lines.{parted, withoutLastEnd, lines, stray}
@@ -72,5 +72,5 @@ unfolding lines withoutLastEnd parted onto
 left-over = refl
 
 spoiled : map stray ((0x61 ∷ 0x0D ∷ []) ∷ (0x61 ∷ 0x0A ∷ 0x62 ∷ []) ∷ (0x61 ∷ 0x62 ∷ []) ∷ []) ≡ true ∷ true ∷ false ∷ []
-unfolding stray holds
+unfolding stray hasByte
 spoiled = refl

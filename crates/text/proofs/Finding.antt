@@ -10,18 +10,18 @@ use borrow.Author.Tests.{eq-eqb, ne-eqb, eqb-true}
 use lib.Dec.{eqb}
 use lib.ListN.{length, getD, drop, take, drop-of-length-le, length-drop}
 use lib.Seq.{drop-drop, getD-drop}
-use Rattle.text.specs.Bytes.{letterOrDigit, lettersOrDigits, holds, before, part}
+use Rattle.text.specs.Bytes.{letterOrDigit, lettersOrDigits, hasByte, before, part}
 use Rattle.text.proofs.Places.{from-here}
 
 -- found so far, or held by what is left
 pub holds-on : (b : ℕ) (s : List ℕ) (i : ℕ) (found : Bool) → i < length s
-    → ((found || eqb (getD s i 0) b) || holds b (drop (i + 1) s)) ≡ (found || holds b (drop i s))
-unfolding holds
+    → ((found || eqb (getD s i 0) b) || hasByte b (drop (i + 1) s)) ≡ (found || hasByte b (drop i s))
+unfolding hasByte
 holds-on b s i true h = refl
 holds-on b s i false h = rw (from-here s i h)
 
-pub holds-end : (b : ℕ) (s : List ℕ) (i : ℕ) (found : Bool) → length s ≤ i → found ≡ (found || holds b (drop i s))
-unfolding holds
+pub holds-end : (b : ℕ) (s : List ℕ) (i : ℕ) (found : Bool) → length s ≤ i → found ≡ (found || hasByte b (drop i s))
+unfolding hasByte
 holds-end b s i true h = refl
 holds-end b s i false h = rw (drop-of-length-le s h)
 
@@ -35,13 +35,13 @@ or-right false u h = h
 
 module _ (b : ℕ) where
   -- a part without the byte is passed over
-  before-past : (n : ℕ) (s : List ℕ) → n ≤ length s → holds b (take n s) ≡ false → before b s ≡ n + before b (drop n s)
-  unfolding before holds
+  before-past : (n : ℕ) (s : List ℕ) → n ≤ length s → hasByte b (take n s) ≡ false → before b s ≡ n + before b (drop n s)
+  unfolding before hasByte
   before-past zero s l h = sym (zero-add (before b s))
   before-past (suc n) [] l h = absurd (omega arith)
   before-past (suc n) (x ∷ s) l h =
-      let rest = before-past n s (omega arith) (or-right (eqb x b) (holds b (take n s)) h) in
-      rw (or-left (eqb x b) (holds b (take n s)) h) (omega arith)
+      let rest = before-past n s (omega arith) (or-right (eqb x b) (hasByte b (take n s)) h) in
+      rw (or-left (eqb x b) (hasByte b (take n s)) h) (omega arith)
 
   before-le : (s : List ℕ) → before b s ≤ length s
   unfolding before
@@ -76,7 +76,7 @@ module _ (b : ℕ) where
     unfolding before
     before-end h = rw (drop-of-length-le s h)
 
-    pub skip-part : (e : ℕ) → i ≤ e → e ≤ length s → holds b (part i e s) ≡ false → e + before b (drop e s) ≡ i + before b (drop i s)
+    pub skip-part : (e : ℕ) → i ≤ e → e ≤ length s → hasByte b (part i e s) ≡ false → e + before b (drop e s) ≡ i + before b (drop i s)
     skip-part e h l n =
         let d : i + (e - i) ≡ e = omega arith in
         let m : e - i ≤ length (drop i s) = omega (arith, length-drop i s) in

@@ -7,18 +7,18 @@ use Prim.Native.Nat.{ℕ, suc, _+_, _/_, _%_, _<_, _≤_}
 use native.Mathlib.Omega.{arith}
 use lib.ListN.{length, take}
 use borrow.Author.Tests.{eq-eqb, ne-eqb}
-use Rattle.text.specs.Utf8.{tail, starts, codePoints, decoded, CountsWhatIsDecoded}
+use Rattle.text.specs.Utf8.{tailOctet, starts, codePoints, decoded, CountsWhatIsDecoded}
 use Rattle.text.specs.Utf8Encoded.{encoded, encodedAll}
 use Rattle.text.proofs.Branches.{cond-either}
 use Rattle.text.proofs.Utf8Read.{read-is-written}
 use Rattle.text.proofs.Utf8Written.{by-ranges}
 
 tail-adds-none : (x : ℕ) → x < 64 → starts (0b1000_0000 + x) ≡ 0
-unfolding starts tail
+unfolding starts tailOctet
 tail-adds-none x h = rw (eq-eqb ((128 + x) / 64) 2 (omega arith))
 
 other-adds-one : (a : ℕ) → (a / 64 ≡ 2 → ⊥) → starts a ≡ 1
-unfolding starts tail
+unfolding starts tailOctet
 other-adds-one a h = rw (ne-eqb (a / 64) 2 h)
 
 -- a character adds one
@@ -54,4 +54,4 @@ pub counts-at-most : (s : List ℕ) → codePoints s ≤ length s
 unfolding codePoints starts
 counts-at-most [] = omega arith
 counts-at-most (b ∷ s) =
-    cond-either (λ n. n + codePoints s ≤ length (b ∷ s)) (tail b) 0 1 (λ e. omega (arith, counts-at-most s)) (λ e. omega (arith, counts-at-most s))
+    cond-either (λ n. n + codePoints s ≤ length (b ∷ s)) (tailOctet b) 0 1 (λ e. omega (arith, counts-at-most s)) (λ e. omega (arith, counts-at-most s))

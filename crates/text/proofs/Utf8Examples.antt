@@ -5,13 +5,13 @@ use mathlib.Core.Bool.{Bool, true, false}
 use mathlib.Core.List.{List, [], _∷_}
 use Prim.Native.Nat.{ℕ}
 use lib.ListN.{length, replicate}
-use Rattle.text.specs.Utf8.{ascii, tail, lead2, lead3, lead4, point2, point3, point4, surrogate, range2, range3, range4, row2, row3, row4}
+use Rattle.text.specs.Utf8.{ascii, tailOctet, lead2, lead3, lead4, point2, point3, point4, surrogate, range2, range3, range4, row2, row3, row4}
 use Rattle.text.specs.Utf8.{width, wellFormedAfter, wellFormed, starts, codePoints}
 use Rattle.text.specs.Utf8Encoded.{encoded, encodedAll}
 
 -- names the definitions that the examples compute
 judged : List ℕ → Bool
-unfolding ascii tail lead2 lead3 lead4 point2 point3 point4 surrogate range2 range3 range4 row2 row3 row4 width wellFormedAfter
+unfolding ascii tailOctet lead2 lead3 lead4 point2 point3 point4 surrogate range2 range3 range4 row2 row3 row4 width wellFormedAfter
 judged s = wellFormed s
 
 -- U+007F in two octets, and U+0080

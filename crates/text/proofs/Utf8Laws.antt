@@ -12,7 +12,7 @@ use lib.Dec.{eqb, ltb}
 use lib.ListN.{length, getD, List·getD-eq-default}
 use lib.Pow.{pow-pos, shr-mod}
 use borrow.Author.Tests.{eq-eqb, ne-eqb, eqb-true, eqb-false, lt-ltb, le-ltb, ltb-true, ltb-false, leb-true}
-use Rattle.text.specs.Utf8.{ascii, tail, lead2, lead3, lead4, point2, point3, point4, surrogate, range2, range3, range4}
+use Rattle.text.specs.Utf8.{ascii, tailOctet, lead2, lead3, lead4, point2, point3, point4, surrogate, range2, range3, range4}
 use Rattle.text.specs.Utf8.{row2, row3, row4, width, widthAt, pointAt}
 use Rattle.text.proofs.Branches.{and-left, and-right, either-way}
 
@@ -118,17 +118,17 @@ module _ (s : List ℕ) (i : ℕ) where
 pub ruleset rows = (and-left, and-right, eqb-true, leb-true)
 
 pub row2-says : (a b : ℕ) → row2 a b ≡ true → (a / 32 ≡ 6) × (b / 64 ≡ 2) × (0x80 ≤ point2 a b) × (point2 a b ≤ 0x7FF)
-unfolding row2 lead2 tail range2
+unfolding row2 lead2 tailOctet range2
 row2-says a b h = search rows depth 8
 
 pub row3-says : (a b c : ℕ) → row3 a b c ≡ true
     → (a / 16 ≡ 14) × (b / 64 ≡ 2) × (c / 64 ≡ 2) × (0x800 ≤ point3 a b c) × (point3 a b c ≤ 0xFFFF) × (not (surrogate (point3 a b c)) ≡ true)
-unfolding row3 lead3 tail range3
+unfolding row3 lead3 tailOctet range3
 row3-says a b c h = search rows depth 8
 
 pub row4-says : (a b c d : ℕ) → row4 a b c d ≡ true
     → (a / 8 ≡ 30) × (b / 64 ≡ 2) × (c / 64 ≡ 2) × (d / 64 ≡ 2) × (0x10000 ≤ point4 a b c d) × (point4 a b c d ≤ 0x10FFFF)
-unfolding row4 lead4 tail range4
+unfolding row4 lead4 tailOctet range4
 row4-says a b c d h = search rows depth 8
 
 not-below : {a b : ℕ} → (a < b → ⊥) → b ≤ a

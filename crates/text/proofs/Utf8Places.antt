@@ -10,7 +10,7 @@ use lib.Dec.{eqb}
 use lib.ListN.{length, getD, take, drop, length-take, length-drop, drop-of-length-le}
 use lib.Seq.{drop-drop, getD-drop, getD-take}
 use borrow.Author.Tests.{eq-eqb, ne-eqb}
-use Rattle.text.specs.Utf8.{ascii, tail, widthAt, wellFormedAfter, wellFormed, starts, codePoints}
+use Rattle.text.specs.Utf8.{ascii, tailOctet, widthAt, wellFormedAfter, wellFormed, starts, codePoints}
 use Rattle.text.specs.Utf8Steps.{Past}
 use Rattle.text.proofs.Branches.{cond-either}
 use Rattle.text.proofs.Places.{from-here}
@@ -96,7 +96,7 @@ past-to-end {s} {i} {j} p h = sym (p .same) ∙ at-the-end s j h
 -- counting goes on in the same way
 pub starts-at-most-one : (b : ℕ) → starts b ≤ 1
 unfolding starts
-starts-at-most-one b = cond-either (λ n. n ≤ 1) (tail b) 0 1 (λ e. omega arith) (λ e. omega arith)
+starts-at-most-one b = cond-either (λ n. n ≤ 1) (tailOctet b) 0 1 (λ e. omega arith) (λ e. omega arith)
 
 pub counted-here : (s : List ℕ) (i : ℕ) → i < length s → codePoints (drop i s) ≡ starts (getD s i 0) + codePoints (drop (i + 1) s)
 unfolding codePoints

@@ -10,7 +10,7 @@ use lib.Dec.{leb, eqb·suc-zero}
 use lib.ListN.{length}
 use lib.Pow.{shr-shr}
 use borrow.Author.Tests.{lt-ltb, leb-true, leb-false, not-true}
-use Rattle.text.specs.Utf8.{ascii, tail, lead2, lead3, lead4, point2, point3, point4, surrogate, range2, range3, range4, row2, row3, row4}
+use Rattle.text.specs.Utf8.{ascii, tailOctet, lead2, lead3, lead4, point2, point3, point4, surrogate, range2, range3, range4, row2, row3, row4}
 use Rattle.text.specs.Utf8.{widthAt, wellFormedAfter, wellFormed, pointAt, decodedAfter, decoded}
 use Rattle.text.specs.Utf8Encoded.{scalar, allScalar, encoded, encodedAll, WrittenIsRead}
 use Rattle.text.proofs.Branches.{branches, and-left, and-right, cond-either}
@@ -47,7 +47,7 @@ in-sixes p =
 -- the octets of a character number fit their row, and write the number
 two-written : (p : ℕ) → 0x7F < p → p ≤ 0x7FF
     → (row2 (0b1100_0000 + p / 64) (0b1000_0000 + p % 64) ≡ true) × (point2 (0b1100_0000 + p / 64) (0b1000_0000 + p % 64) ≡ p)
-unfolding row2 lead2 tail range2 point2
+unfolding row2 lead2 tailOctet range2 point2
 two-written p l h =
     let a : (0b1100_0000 + p / 64) / 32 ≡ 0b110 = omega arith in
     let b = six-bits (p % 64) (omega arith) in
@@ -57,7 +57,7 @@ two-written p l h =
 three-written : (p : ℕ) → 0x7FF < p → p ≤ 0xFFFF → surrogate p ≡ false
     → (row3 (0b1110_0000 + p / 4096) (0b1000_0000 + p / 64 % 64) (0b1000_0000 + p % 64) ≡ true)
     × (point3 (0b1110_0000 + p / 4096) (0b1000_0000 + p / 64 % 64) (0b1000_0000 + p % 64) ≡ p)
-unfolding row3 lead3 tail range3 point3
+unfolding row3 lead3 tailOctet range3 point3
 three-written p l h n =
     let a : (0b1110_0000 + p / 4096) / 16 ≡ 0b1110 = omega arith in
     let b = six-bits (p / 64 % 64) (omega arith) in
@@ -68,7 +68,7 @@ three-written p l h n =
 four-written : (p : ℕ) → 0xFFFF < p → p ≤ 0x10FFFF
     → (row4 (0b1111_0000 + p / 262144) (0b1000_0000 + p / 4096 % 64) (0b1000_0000 + p / 64 % 64) (0b1000_0000 + p % 64) ≡ true)
     × (point4 (0b1111_0000 + p / 262144) (0b1000_0000 + p / 4096 % 64) (0b1000_0000 + p / 64 % 64) (0b1000_0000 + p % 64) ≡ p)
-unfolding row4 lead4 tail range4 point4
+unfolding row4 lead4 tailOctet range4 point4
 four-written p l h =
     let a : (0b1111_0000 + p / 262144) / 8 ≡ 0b11110 = omega arith in
     let x : (0b1111_0000 + p / 262144) % 8 ≡ p / 262144 = omega arith in

@@ -36,9 +36,9 @@ same (a ∷ s) [] = false
 same (a ∷ s) (b ∷ t) = eqb a b && same s t
 
 -- a byte stands in a text
-unfoldable pub holds : ℕ → List ℕ → Bool
-holds b [] = false
-holds b (x ∷ s) = eqb x b || holds b s
+unfoldable pub hasByte : ℕ → List ℕ → Bool
+hasByte b [] = false
+hasByte b (x ∷ s) = eqb x b || hasByte b s
 
 -- how many bytes stand before the first b
 unfoldable pub before : ℕ → List ℕ → ℕ

@@ -5,7 +5,7 @@ use mathlib.Core.List.{List, [], _∷_}
 use Prim.Native.Nat.{ℕ, suc, _+_, _-_}
 use lib.Dec.{eqb}
 use lib.ListN.{length, getD, take}
-use Rattle.text.specs.Bytes.{holds}
+use Rattle.text.specs.Bytes.{hasByte}
 use Rattle.text.specs.Fields.{onto}
 
 abbrev pub crlf : ℕ → ℕ → Bool
@@ -34,4 +34,4 @@ lineStop (b ∷ s) = cond (crlf b (getD s 0 0)) 0 (suc (lineStop s))
 
 -- A CR or LF in a line that is parted off.
 unfoldable pub stray : List ℕ → Bool
-stray line = holds 0x0D line || holds 0x0A line
+stray line = hasByte 0x0D line || hasByte 0x0A line

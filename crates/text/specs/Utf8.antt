@@ -18,8 +18,8 @@ use lib.ListN.{length, getD}
 unfoldable pub ascii : ℕ → Bool
 ascii b = ltb b 0b1000_0000
 
-unfoldable pub tail : ℕ → Bool
-tail b = eqb (b / 64) 0b10
+unfoldable pub tailOctet : ℕ → Bool
+tailOctet b = eqb (b / 64) 0b10
 
 unfoldable pub lead2 : ℕ → Bool
 lead2 b = eqb (b / 32) 0b110
@@ -56,13 +56,13 @@ range4 p = leb 0x10000 p && leb p 0x10FFFF
 
 -- A row of the table: lead and tail octets, and a code point in its range.
 unfoldable pub row2 : ℕ → ℕ → Bool
-row2 a b = lead2 a && (tail b && range2 (point2 a b))
+row2 a b = lead2 a && (tailOctet b && range2 (point2 a b))
 
 unfoldable pub row3 : ℕ → ℕ → ℕ → Bool
-row3 a b c = lead3 a && (tail b && (tail c && range3 (point3 a b c)))
+row3 a b c = lead3 a && (tailOctet b && (tailOctet c && range3 (point3 a b c)))
 
 unfoldable pub row4 : ℕ → ℕ → ℕ → ℕ → Bool
-row4 a b c d = lead4 a && (tail b && (tail c && (tail d && range4 (point4 a b c d))))
+row4 a b c d = lead4 a && (tailOctet b && (tailOctet c && (tailOctet d && range4 (point4 a b c d))))
 
 -- How many octets the character takes that starts with a b c d; 0 where none does.
 -- An octet past the end of the text counts as 0, which is no tail, so nothing is cut off.
@@ -102,7 +102,7 @@ decoded s = decodedAfter 0 s
 
 -- "Lengths count code points, not bytes": the octets that are no tail.
 unfoldable pub starts : ℕ → ℕ
-starts b = cond (tail b) 0 1
+starts b = cond (tailOctet b) 0 1
 
 unfoldable pub codePoints : List ℕ → ℕ
 codePoints [] = 0

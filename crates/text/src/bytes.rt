@@ -3,7 +3,7 @@ ghost use mathlib.Core.Path.{_≡_};
 ghost use mathlib.Core.Bool.{_||_};
 ghost use Prim.Native.Nat.{min, _+_, _≤_};
 ghost use lib.ListN.{length, getD, take, drop};
-ghost use Rattle.text.specs.Bytes.{between, digit, letter, letterOrDigit, lettersOrDigits, part, same, holds, before};
+ghost use Rattle.text.specs.Bytes.{between, digit, letter, letterOrDigit, lettersOrDigits, part, same, hasByte, before};
 
 // Is the byte from low to high?
 pub fn is_between(low: u8, high: u8, b: u8) -> bool
@@ -113,7 +113,7 @@ fn either(a: bool, b: bool) -> bool
 
 // Does a byte stand in a text? The loop has no early exit, so that many bytes can be compared at once.
 pub fn has_byte(s: &[u8], b: u8) -> bool
-    ensures { λ r. ⌜ r ≡ holds b (now (s .entry)) ⌝ }
+    ensures { λ r. ⌜ r ≡ hasByte b (now (s .entry)) ⌝ }
 {
     let mut found = false;
     let mut i = 0;

@@ -3,7 +3,7 @@ ghost use mathlib.Core.Path.{_≡_};
 ghost use mathlib.Core.Bool.{true, false};
 ghost use Prim.Native.Nat.{ℕ, _+_, _*_, _%_, _<_, _≤_};
 ghost use lib.ListN.{length, getD, drop};
-ghost use Rattle.text.specs.Utf8.{ascii, tail, lead2, lead3, lead4, point2, point3, point4, surrogate, range2, range3, range4};
+ghost use Rattle.text.specs.Utf8.{ascii, tailOctet, lead2, lead3, lead4, point2, point3, point4, surrogate, range2, range3, range4};
 ghost use Rattle.text.specs.Utf8.{row2, row3, row4, width, widthAt, wellFormed, starts, codePoints};
 ghost use Rattle.text.specs.Utf8Steps.{Past};
 use crate::bytes::byte_at;
@@ -17,7 +17,7 @@ pub fn is_ascii(b: u8) -> bool
 
 // Is the octet 10xxxxxx?
 pub fn is_tail(b: u8) -> bool
-    ensures { λ r. ⌜ r ≡ tail b ⌝ }
+    ensures { λ r. ⌜ r ≡ tailOctet b ⌝ }
 {
     b & 0xC0 == 0x80
 }

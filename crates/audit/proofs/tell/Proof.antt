@@ -36,7 +36,7 @@ same-length c = search needs
 returns : tie.Need-returns
 returns c =
     let args = c .args in
-    tell-three (args .answers .now) (args .i) (args .told) (c .pre)
+    tell-three (args .answers .now) (args .i) (args .reply) (c .pre)
 
 pub tell-spec : {M : Type 1} → statement M
 tell-spec =

@@ -10,8 +10,8 @@ ident-of-requires c κs = search needs
 go-ahead-requires : tie.Need-go-ahead-requires
 go-ahead-requires c κs = search needs
 
-tell-reply-requires : tie.Need-tell-reply-requires
-tell-reply-requires c κs = search needs
+tell-completion-requires : tie.Need-tell-completion-requires
+tell-completion-requires c κs = search needs
 
 same-length : tie.Need-same-length
 same-length c = search needs
@@ -19,9 +19,9 @@ same-length c = search needs
 returns : tie.Need-returns
 returns c =
     let made = c .before .before .before in
-    plays-on (made .before .ident-of .ensures) (made .go-ahead .ensures) (c .tell-reply .ensures)
+    plays-on (made .before .ident-of .ensures) (made .go-ahead .ensures) (c .tell-completion .ensures)
 
 pub buntingraft-go-ahead-spec : {M : Type 1} → statement M
 buntingraft-go-ahead-spec =
     tie.close
-    (tie.spec ident-of-requires go-ahead-requires tell-reply-requires same-length returns)
+    (tie.spec ident-of-requires go-ahead-requires tell-completion-requires same-length returns)

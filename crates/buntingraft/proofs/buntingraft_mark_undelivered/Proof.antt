@@ -10,8 +10,8 @@ ident-of-requires c κs = search needs
 mark-undelivered-requires : tie.Need-mark-undelivered-requires
 mark-undelivered-requires c κs = search needs
 
-tell-reply-requires : tie.Need-tell-reply-requires
-tell-reply-requires c κs = search needs
+tell-completion-requires : tie.Need-tell-completion-requires
+tell-completion-requires c κs = search needs
 
 same-length : tie.Need-same-length
 same-length c = search needs
@@ -19,9 +19,9 @@ same-length c = search needs
 returns : tie.Need-returns
 returns c =
     let made = c .before .before .before in
-    plays-on (made .before .ident-of .ensures) (made .mark-undelivered .ensures) (c .tell-reply .ensures)
+    plays-on (made .before .ident-of .ensures) (made .mark-undelivered .ensures) (c .tell-completion .ensures)
 
 pub buntingraft-mark-undelivered-spec : {M : Type 1} → statement M
 buntingraft-mark-undelivered-spec =
     tie.close
-    (tie.spec ident-of-requires mark-undelivered-requires tell-reply-requires same-length returns)
+    (tie.spec ident-of-requires mark-undelivered-requires tell-completion-requires same-length returns)

@@ -38,9 +38,9 @@ use denote.Triple.Walked.{says, Stays, gave-ref, gave-slice, stay-none-slice, wa
 use denote.Triple.Clauses.{ensured, lasts}
 use denote.Exit.{yes}
 use Rattle.memory.specs.Read.{readBook}
-use Rattle.audit.specs.declared.told.Told.{Told}
-use Rattle.audit.proofs.told.Told as D
-use Rattle.audit.proofs.told.Told.Laws as D′
+use Rattle.audit.specs.declared.reply.Reply.{Reply}
+use Rattle.audit.proofs.reply.Reply as D
+use Rattle.audit.proofs.reply.Reply.Laws as D′
 use Rattle.sheet.specs.Sheet.{Sheet, sheetOf}
 use Rattle.sheet.specs.declared.Sheeting.{Sheeting}
 use Rattle.sheet.specs.declared.SheetRow.{SheetRow}
@@ -53,7 +53,7 @@ use Rattle.sheet.proofs.sheet as sheet
 use Rattle.sheet.proofs.sheet.Symbol as sheet-def
 use Rattle.sheet.proofs.sheet.Symbol.{name as #sheet·sheet}
 use Rattle.sheet.proofs.sheet.Met as sheet-thm
-use Rattle.buntingraft.specs.Exports.{toldSheet, Sheets}
+use Rattle.buntingraft.specs.Exports.{replyToSheet, Sheets}
 use Rattle.buntingraft.proofs.tell_sheet as tell-sheet
 use Rattle.buntingraft.proofs.tell_sheet.Symbol as tell-sheet-def
 use Rattle.buntingraft.proofs.tell_sheet.Symbol.{name as #buntingraft·tell-sheet}
@@ -70,10 +70,10 @@ stayed = (stay-none-slice (0 ∷ []) tt (plain (λ _. u8)) yes, (gave-slice (1 �
 abbrev Says : List ℕ → List SheetRow → Totals → Sheeting → List SheetRow → Totals → Type 0
 Says book table totals r table′ totals′ = record { answer = r; table = table′; totals = totals′ } ≡ sheetOf (readBook book) table totals
 
-sheets : {book : List ℕ} {table table′ : List SheetRow} {totals totals′ : Totals} {r : Sheeting} {told : Told} → Says book table totals r table′ totals′
-    → told ≡ toldSheet r → Sheets book table totals told table′ totals′
-sheets e told = record {
-  is-told = told ∙ ap (λ (s : Sheet). toldSheet (s .answer)) e;
+sheets : {book : List ℕ} {table table′ : List SheetRow} {totals totals′ : Totals} {r : Sheeting} {reply : Reply} → Says book table totals r table′ totals′
+    → reply ≡ replyToSheet r → Sheets book table totals reply table′ totals′
+sheets e reply = record {
+  is-reply = reply ∙ ap (λ (s : Sheet). replyToSheet (s .answer)) e;
   rows = ap (λ (s : Sheet). s .table) e;
   sums = ap (λ (s : Sheet). s .totals) e;
 }
@@ -86,8 +86,8 @@ module _ {M : Type 1} (𝓤 : URA M) (H : Heap 𝓤) (A : Atoms 𝓤) (mem : Mem
   abbrev Tell : Contract 𝓤
   Tell = tripleOf 𝓤 H A tell-sheet.signature (tell-sheet.spec 𝓤 H A mem run)
 
-  told-of : (r : Sheeting) (d : Told) → ent 𝓤 (ensured 𝓤 H A tell-sheet.ended (tell-sheet.clauses 𝓤 H A mem run) tt (r, tt) tt d) (fact 𝓤 (d ≡ toldSheet r))
-  told-of r d = exE 𝓤 _ (λ ws. snd∗ 𝓤 (sem 𝓤 H A (lasts tell-sheet.ended tt (r, tt) ws)) (fact 𝓤 (d ≡ toldSheet r)))
+  reply-of : (r : Sheeting) (d : Reply) → ent 𝓤 (ensured 𝓤 H A tell-sheet.ended (tell-sheet.clauses 𝓤 H A mem run) tt (r, tt) tt d) (fact 𝓤 (d ≡ replyToSheet r))
+  reply-of r d = exE 𝓤 _ (λ ws. snd∗ 𝓤 (sem 𝓤 H A (lasts tell-sheet.ended tt (r, tt) ws)) (fact 𝓤 (d ≡ replyToSheet r)))
 
 module _ {M : Type 1} (𝓤 : URA M) (H : Heap 𝓤) (A : Atoms 𝓤) (W : Given 𝓤 H A) (mem : Memory → SProp 𝓤) (run : Routine → Fun 𝓤) (κ₀ κ₁ κ₂ : Lft) (q₀ q₁ q₂ : Share) (x₀ : RefT (List ℕ)) (x₁ : RefT (List SheetRow)) (x₂ : RefT Totals) (room₀ : Room u8 (length (x₀ .now))) (room : Room T.the-row (length (x₁ .now))) where
   abbrev s₀ : Val
@@ -121,7 +121,7 @@ module _ {M : Type 1} (𝓤 : URA M) (H : Heap 𝓤) (A : Atoms 𝓤) (W : Given
   abbrev Saying : Sheeting → List SheetRow → Totals → Type 0
   Saying r zs w = Says (x₀ .now) (x₁ .now) (x₂ .now) r zs w
 
-  exits : (zs : List SheetRow) (w : Totals) (d : Told) (z : Val) → Is D.the-row d (z ∷ []) → length zs ≡ length (x₁ .now) → Sheets (x₀ .now) (x₁ .now) (x₂ .now) d zs w
+  exits : (zs : List SheetRow) (w : Totals) (d : Reply) (z : Val) → Is D.the-row d (z ∷ []) → length zs ≡ length (x₁ .now) → Sheets (x₀ .now) (x₁ .now) (x₂ .now) d zs w
       → ent 𝓤 (⋆ 𝓤 H A ((‵ (flft κ₀ q₀) ⊛ ‵ (flft κ₁ q₁) ⊛ ‵ (flft κ₂ q₂) ⊛ ‵ ftrue) ∷ ‵ (fres (x₂ .name) (R.the-row .coded .code w)) ∷ ‵ ftrue ∷ ‵ (finally T.the-row (x₁ .name) zs) ∷ ‵ Shr ∷ [])) (Post z)
   exits zs w d z is l sheeted =
       qed W ((‵ (flft κ₀ q₀) ⊛ ‵ (flft κ₁ q₁) ⊛ ‵ (flft κ₂ q₂) ⊛ ‵ ftrue) ∷ ‵ (fres (x₂ .name) (R.the-row .coded .code w)) ∷ ‵ ftrue ∷ ‵ (finally T.the-row (x₁ .name) zs) ∷ ‵ Shr ∷ []) ∵
@@ -169,14 +169,14 @@ module _ {M : Type 1} (𝓤 : URA M) (H : Heap 𝓤) (A : Atoms 𝓤) (W : Given
         land ! (from ! (stop !)) (init ! 11 refl (EL.lawful E.the-type E′.the-laws 𝓤 H A W tt .typed r _ isr .0)) $
         nothing ! $ use1 W (raw (Tell 𝓤 H A mem run .pre (to-tell r v))) (goes-tell r v isr) $
         calls-at ! fm (Tell 𝓤 H A mem run) known-tell (to-tell r v) (and-then ! (load ! (from ! (stop !)) (look ! 12 refl)) (no-more !)) (λ z.
-        use1 W (later (some (λ (d : Told). (‵ ftrue ⊛ ‵ (D.the-row .own d (z ∷ []))) ⊛ raw (ensured 𝓤 H A tell-sheet.ended (tell-sheet.clauses 𝓤 H A mem run) tt (r, tt) tt d)))) (id⊢ 𝓤 _) $ await ! tt $ pick ! (λ d.
-        split ! $ move ! (1 ∷ []) $ use1 W (raw (fact 𝓤 (d ≡ toldSheet r))) (told-of 𝓤 H A mem run r d) $ heard ! (d ≡ toldSheet r) (λ told. split ! $ drop ! $
+        use1 W (later (some (λ (d : Reply). (‵ ftrue ⊛ ‵ (D.the-row .own d (z ∷ []))) ⊛ raw (ensured 𝓤 H A tell-sheet.ended (tell-sheet.clauses 𝓤 H A mem run) tt (r, tt) tt d)))) (id⊢ 𝓤 _) $ await ! tt $ pick ! (λ d.
+        split ! $ move ! (1 ∷ []) $ use1 W (raw (fact 𝓤 (d ≡ replyToSheet r))) (reply-of 𝓤 H A mem run r d) $ heard ! (d ≡ replyToSheet r) (λ reply. split ! $ drop ! $
         peeks ! D.the-row (Is D.the-row) (shows 𝓤 H A D.the-row) d (z ∷ []) (λ isd. drop ! $
         land ! (from ! (stop !)) (init ! 19 refl (LL.lawful D.the-type D′.the-laws 𝓤 H A W .typed d _ isd .0)) $
         returns ! (look ! 19 refl) $ forget ! 5 refl $ forget ! 7 refl $ forget ! 9 refl $ forget ! 11 refl $ forget ! 13 refl $ forget ! 15 refl $ forget ! 17 refl $ forget ! 19 refl $
         move ! (19 ∷ 20 ∷ []) $ free1 ! $ move ! (17 ∷ 18 ∷ []) $ free1 ! $ move ! (15 ∷ 16 ∷ []) $ free1 ! $ move ! (13 ∷ 14 ∷ []) $ free1 ! $ move ! (11 ∷ 12 ∷ []) $ free1 ! $
         move ! (9 ∷ 10 ∷ []) $ free1 ! $ move ! (7 ∷ 8 ∷ []) $ free1 ! $ move ! (5 ∷ 6 ∷ []) $ free1 ! $ free0 ! $
-        by ! (exits (ws .1 .0) (ws .1 .1 .0) d z isd l (sheets e told))))))))))))))))))))
+        by ! (exits (ws .1 .0) (ws .1 .1 .0) d z isd l (sheets e reply))))))))))))))))))))
 
 module _ {M : Type 1} (𝓤 : URA M) (H : Heap 𝓤) (A : Atoms 𝓤) (W : Given 𝓤 H A) (mem : Memory → SProp 𝓤) (run : Routine → Fun 𝓤) where
   export-walks : (C : Calls 𝓤 H) (Λ : Loops 𝓤 H) → FmC 𝓤 H (W .laws) C → Triple 𝓤 (C #sheet·sheet) (SheetOf 𝓤 H A mem run) → Triple 𝓤 (C #buntingraft·tell-sheet) (Tell 𝓤 H A mem run) → Walks 𝓤 H A export.ended stayed (WpFn 𝓤 H C Λ code.function) (export.clauses 𝓤 H A mem run)

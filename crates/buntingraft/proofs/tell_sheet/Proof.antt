@@ -1,5 +1,5 @@
 -- `buntingraft::tell_sheet` goes by the form of the answer.
-use Rattle.buntingraft.specs.Exports.{toldSheet}
+use Rattle.buntingraft.specs.Exports.{replyToSheet}
 use borrow.Author.Needs.{needs}
 use Rattle.buntingraft.proofs.tell_sheet.Statement.{statement}
 use Rattle.buntingraft.proofs.tell_sheet.Tie as tie
@@ -17,11 +17,11 @@ refused-requires : tie.Need-refused-requires
 refused-requires c κs = search needs
 
 returns : tie.Need-returns
-unfolding toldSheet
+unfolding replyToSheet
 returns c = rw (c .before .before .sheeting .given .1) (c .done .ensures)
 
 returns-2 : tie.Need-returns-2
-unfolding toldSheet
+unfolding replyToSheet
 returns-2 c = rw (c .before .before .sheeting2 .given .1) (c .refused .ensures)
 
 pub tell-sheet-spec : {M : Type 1} → statement M

@@ -13,8 +13,8 @@ shared-slice-read-match c = search needs
 go-ahead-requires : tie.Need-go-ahead-requires
 go-ahead-requires c κs = search needs
 
-tell-reply-requires : tie.Need-tell-reply-requires
-tell-reply-requires c κs = search needs
+tell-completion-requires : tie.Need-tell-completion-requires
+tell-completion-requires c κs = search needs
 
 pair-requires : tie.Need-pair-requires
 pair-requires c κs = search needs
@@ -25,8 +25,8 @@ tell-pairing-requires c κs = search needs
 close-requires : tie.Need-close-requires
 close-requires c κs = search needs
 
-tell-reply-requires-2 : tie.Need-tell-reply-requires-2
-tell-reply-requires-2 c κs = search needs
+tell-completion-requires-2 : tie.Need-tell-completion-requires-2
+tell-completion-requires-2 c κs = search needs
 
 money-in-requires : tie.Need-money-in-requires
 money-in-requires c κs = search needs
@@ -53,7 +53,7 @@ returns c =
     let ident = chosen .before .before in
     let entry = ident .before .before .before .args .entry .now in
     plays (on-go-ahead entry (ident .ident-in .ensures) (chosen .match .keys1))
-    (made .go-ahead .ensures) (c .tell-reply .ensures)
+    (made .go-ahead .ensures) (c .tell-completion .ensures)
 
 same-length-2 : tie.Need-same-length-2
 same-length-2 c = search needs
@@ -77,7 +77,7 @@ returns-3 c =
     let ident = chosen .before .before in
     let entry = ident .before .before .before .args .entry .now in
     plays (on-close entry (ident .ident-in .ensures) (chosen .match .keys3))
-    (made .close .ensures) (c .tell-reply2 .ensures)
+    (made .close .ensures) (c .tell-completion2 .ensures)
 
 same-length-4 : tie.Need-same-length-4
 same-length-4 c = search needs
@@ -106,11 +106,11 @@ play-act-spec =
     ident-in-requires
     shared-slice-read-match
     go-ahead-requires
-    tell-reply-requires
+    tell-completion-requires
     pair-requires
     tell-pairing-requires
     close-requires
-    tell-reply-requires-2
+    tell-completion-requires-2
     money-in-requires
     route-in-requires
     return-money-requires

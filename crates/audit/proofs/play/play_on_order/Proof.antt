@@ -25,14 +25,14 @@ tell-payment-requires c κs = search needs
 mark-undelivered-requires : tie.Need-mark-undelivered-requires
 mark-undelivered-requires c κs = search needs
 
-tell-reply-requires : tie.Need-tell-reply-requires
-tell-reply-requires c κs = search needs
+tell-completion-requires : tie.Need-tell-completion-requires
+tell-completion-requires c κs = search needs
 
 withdraw-requires : tie.Need-withdraw-requires
 withdraw-requires c κs = search needs
 
-tell-reply-requires-2 : tie.Need-tell-reply-requires-2
-tell-reply-requires-2 c κs = search needs
+tell-completion-requires-2 : tie.Need-tell-completion-requires-2
+tell-completion-requires-2 c κs = search needs
 
 same-length : tie.Need-same-length
 same-length c = search needs
@@ -65,7 +65,7 @@ returns-3 c =
     let chosen = made .before .before in
     let number = chosen .before .before in
     plays (on-undelivered _ (number .before .before .before .pre .1) (number .read-eight .ensures) (chosen .match .keys3))
-    (made .mark-undelivered .ensures) (c .tell-reply .ensures)
+    (made .mark-undelivered .ensures) (c .tell-completion .ensures)
 
 same-length-4 : tie.Need-same-length-4
 same-length-4 c = search needs
@@ -78,7 +78,7 @@ returns-4 c =
     let start = number .before .before .before in
     let others = chosen .match .rest in
     plays (on-withdraw _ (start .pre .1) (number .read-eight .ensures) (start .pre .2) (start .pre .3) (others .0 .0 .1) (others .0 .1) (others .1))
-    (made .withdraw .ensures) (c .tell-reply2 .ensures)
+    (made .withdraw .ensures) (c .tell-completion2 .ensures)
 
 pub play-on-order-spec : {M : Type 1} → statement M
 play-on-order-spec =
@@ -91,9 +91,9 @@ play-on-order-spec =
     pay-requires
     tell-payment-requires
     mark-undelivered-requires
-    tell-reply-requires
+    tell-completion-requires
     withdraw-requires
-    tell-reply-requires-2
+    tell-completion-requires-2
     same-length
     returns
     same-length-2

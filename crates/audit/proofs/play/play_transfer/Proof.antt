@@ -16,8 +16,8 @@ read-eight-requires c κs = let long = fields-there _ (c .before .before .before
 transfer-requires : tie.Need-transfer-requires
 transfer-requires c κs = search needs
 
-tell-reply-requires : tie.Need-tell-reply-requires
-tell-reply-requires c κs = search needs
+tell-completion-requires : tie.Need-tell-completion-requires
+tell-completion-requires c κs = search needs
 
 same-length : tie.Need-same-length
 same-length c = search needs
@@ -26,7 +26,7 @@ returns : tie.Need-returns
 returns c =
     let made = c .before .before .before in
     let number = made .before in
-    plays (λ i. Transfer (number .before .first-text .ensures i) (number .read-eight .ensures i)) (made .transfer .ensures) (c .tell-reply .ensures)
+    plays (λ i. Transfer (number .before .first-text .ensures i) (number .read-eight .ensures i)) (made .transfer .ensures) (c .tell-completion .ensures)
 
 pub play-transfer-spec : {M : Type 1} → statement M
 play-transfer-spec =
@@ -35,6 +35,6 @@ play-transfer-spec =
     first-text-requires
     read-eight-requires
     transfer-requires
-    tell-reply-requires
+    tell-completion-requires
     same-length
     returns)

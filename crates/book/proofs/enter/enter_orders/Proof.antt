@@ -1,7 +1,7 @@
 -- `book::enter::enter_orders` enters order after order of the table.
 use Rattle.book.proofs.Entering.{kept-in-range, one-more-entered}
 use Rattle.book.proofs.Storing.{none-stored}
-use Rattle.book.specs.Entering.{rowFor}
+use Rattle.book.specs.Entering.{keptRow}
 use Rattle.book.specs.Place.{RowsStored}
 use native.Mathlib.Omega.{arith}
 use Prim.Native.Nat.{_-_, _≤_}
@@ -11,7 +11,7 @@ use Rattle.book.proofs.enter.enter_orders.Statement.{statement}
 use Rattle.book.proofs.enter.enter_orders.Tie as tie
 
 abbrev Inv-loop : tie.InvT-loop
-Inv-loop memory₀ k n kept done₀ memory done = RowsStored (rowFor k kept) k done memory₀ memory × (done ≤ n)
+Inv-loop memory₀ k n kept done₀ memory done = RowsStored (keptRow k kept) k done memory₀ memory × (done ≤ n)
 
 abbrev μ-loop : tie.MeasureT-loop
 μ-loop memory₀ k n kept done₀ memory done = n - done

@@ -2,12 +2,12 @@
 use mathlib.Core.Path.{sym}
 use borrow.Author.Needs.{needs}
 use lib.Seq.{set-out}
-use Rattle.epe.specs.Kept.{codeOf}
+use Rattle.epe.specs.Kept.{keptCode}
 use Rattle.epe.proofs.kept.keep.Statement.{statement}
 use Rattle.epe.proofs.kept.keep.Tie as tie
 
 returns : tie.Need-returns
-returns c = let start = c .before .args in sym (set-out (start .kept .now) (start .j) (codeOf (start .order)) (c .if1 .taken))
+returns c = let start = c .before .args in sym (set-out (start .kept .now) (start .j) (keptCode (start .order)) (c .if1 .taken))
 
 mul-kept : tie.Need-mul-kept
 mul-kept c = search needs

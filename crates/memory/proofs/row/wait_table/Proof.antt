@@ -1,13 +1,13 @@
 -- `memory::row::wait_table` tells one byte after the other.
 use mathlib.Core.Path.{refl}
 use Prim.Native.Nat.{_-_}
-use Rattle.memory.proofs.RowLaws.{ToldBelow, told-none, told-more, told-all}
+use Rattle.memory.proofs.RowLaws.{RepliesBelow, told-none, told-more, told-all}
 use borrow.Author.Needs.{needs}
 use Rattle.memory.proofs.row.wait_table.Statement.{statement}
 use Rattle.memory.proofs.row.wait_table.Tie as tie
 
 abbrev Inv-loop : tie.InvT-loop
-Inv-loop route money table₀ code₀ table code = ToldBelow route money code table
+Inv-loop route money table₀ code₀ table code = RepliesBelow route money code table
 
 abbrev μ-loop : tie.MeasureT-loop
 μ-loop route money table₀ code₀ table code = 256 - code

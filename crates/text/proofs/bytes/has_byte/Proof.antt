@@ -5,13 +5,13 @@ use Prim.Native.Nat.{_-_}
 use native.Mathlib.Omega.{arith}
 use borrow.Author.Needs.{needs}
 use lib.ListN.{length, drop}
-use Rattle.text.specs.Bytes.{holds}
+use Rattle.text.specs.Bytes.{hasByte}
 use Rattle.text.proofs.Finding.{holds-on, holds-end}
 use Rattle.text.proofs.bytes.has_byte.Statement.{statement}
 use Rattle.text.proofs.bytes.has_byte.Tie as tie
 
 abbrev Inv-loop : tie.InvT-loop
-Inv-loop s b found₀ i₀ found i = (found || holds b (drop i s)) ≡ holds b s
+Inv-loop s b found₀ i₀ found i = (found || hasByte b (drop i s)) ≡ hasByte b s
 
 abbrev μ-loop : tie.MeasureT-loop
 μ-loop s b found₀ i₀ found i = length s - i

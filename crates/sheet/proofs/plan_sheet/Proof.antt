@@ -1,11 +1,11 @@
--- `sheet::ask` asks in order.
+-- `sheet::plan_sheet` asks in order.
 use mathlib.Core.Path.{sym, _∙_}
 use Rattle.sound.proofs.ReadLaws.{sound-parts}
 use Rattle.sheet.proofs.Planning.{no-book, no-room, as-added}
 use borrow.Author.Tests.{not-true, not-false}
 use borrow.Author.Needs.{needs}
-use Rattle.sheet.proofs.ask.Statement.{statement}
-use Rattle.sheet.proofs.ask.Tie as tie
+use Rattle.sheet.proofs.plan_sheet.Statement.{statement}
+use Rattle.sheet.proofs.plan_sheet.Tie as tie
 
 is-sound-requires : tie.Need-is-sound-requires
 is-sound-requires c κs = search needs
@@ -47,8 +47,8 @@ returns-4 c =
     let sound = sym (counted .before .before .is-sound .ensures) ∙ not-false _ (counted .before .if1 .left) in
     as-added _ _ _ sound (counted .shipments .ensures .0) (search needs) (sym (c .enum-told .given .1) ∙ added .add .ensures)
 
-pub ask-spec : {M : Type 1} → statement M
-ask-spec =
+pub plan-sheet-spec : {M : Type 1} → statement M
+plan-sheet-spec =
     tie.close
     (tie.spec
     is-sound-requires

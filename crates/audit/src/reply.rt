@@ -1,29 +1,29 @@
 // An answer in three numbers.
 use book::answer::Acceptance;
+use book::answer::Completion;
 use book::answer::Pairing;
 use book::answer::Payment;
 use book::answer::Posting;
-use book::answer::Reply;
 use book::answer::Returning;
 use money::Money;
 ghost use mathlib.Core.Path.{_≡_};
 ghost use Rattle.money.specs.declared.Money.the-variants.{K, O};
-ghost use Rattle.book.specs.Answers.{replyOf, acceptanceOf, pairingOf, postingOf, paymentOf, returningOf};
-ghost use Rattle.audit.specs.Replay.{doneWith, shortBy, refusedWith, toldOf};
+ghost use Rattle.book.specs.Answers.{completionOf, acceptanceOf, pairingOf, postingOf, paymentOf, returningOf};
+ghost use Rattle.audit.specs.Replay.{doneWith, shortBy, refusedWith, replyOf};
 
 // 0 done, 1 short or 2 refused, and what the answer says.
 #[repr(C)]
-pub struct Told {
+pub struct Reply {
     pub status: u64,
     pub first: u64,
     pub second: u64,
 }
 
 // Done, and what the answer says.
-pub fn done(first: u64, second: u64) -> Told
+pub fn done(first: u64, second: u64) -> Reply
     ensures { λ r. ⌜ r ≡ doneWith first second ⌝ }
 {
-    Told {
+    Reply {
         status: 0,
         first,
         second,
@@ -31,10 +31,10 @@ pub fn done(first: u64, second: u64) -> Told
 }
 
 // Short by an amount and a fee.
-fn short(amount: u64, fee: u64) -> Told
+fn short(amount: u64, fee: u64) -> Reply
     ensures { λ r. ⌜ r ≡ shortBy amount fee ⌝ }
 {
-    Told {
+    Reply {
         status: 1,
         first: amount,
         second: fee,
@@ -42,29 +42,29 @@ fn short(amount: u64, fee: u64) -> Told
 }
 
 // Refused, with the number of the question.
-pub fn refused(number: u64) -> Told
+pub fn refused(number: u64) -> Reply
     ensures { λ r. ⌜ r ≡ refusedWith number ⌝ }
 {
-    Told {
+    Reply {
         status: 2,
         first: number,
         second: 0,
     }
 }
 
-// What a reply says, in three numbers.
-pub fn tell_reply(reply: Reply) -> Told
-    ensures { λ r. ⌜ r ≡ toldOf (replyOf reply) ⌝ }
+// What a completion says, in three numbers.
+pub fn tell_completion(completion: Completion) -> Reply
+    ensures { λ r. ⌜ r ≡ replyOf (completionOf completion) ⌝ }
 {
-    match reply {
-        Reply::Done => done(0, 0),
-        Reply::Refused(number) => refused(number),
+    match completion {
+        Completion::Done => done(0, 0),
+        Completion::Refused(number) => refused(number),
     }
 }
 
 // What an acceptance says.
-pub fn tell_acceptance(acceptance: Acceptance) -> Told
-    ensures { λ r. ⌜ r ≡ toldOf (acceptanceOf acceptance) ⌝ }
+pub fn tell_acceptance(acceptance: Acceptance) -> Reply
+    ensures { λ r. ⌜ r ≡ replyOf (acceptanceOf acceptance) ⌝ }
 {
     match acceptance {
         Acceptance::Accepted(orders, faulty) => done(orders, faulty),
@@ -73,8 +73,8 @@ pub fn tell_acceptance(acceptance: Acceptance) -> Told
 }
 
 // What a pairing says.
-pub fn tell_pairing(pairing: Pairing) -> Told
-    ensures { λ r. ⌜ r ≡ toldOf (pairingOf pairing) ⌝ }
+pub fn tell_pairing(pairing: Pairing) -> Reply
+    ensures { λ r. ⌜ r ≡ replyOf (pairingOf pairing) ⌝ }
 {
     match pairing {
         Pairing::Paired => done(0, 0),
@@ -84,8 +84,8 @@ pub fn tell_pairing(pairing: Pairing) -> Told
 }
 
 // What a posting says.
-pub fn tell_posting(posting: Posting) -> Told
-    ensures { λ r. ⌜ r ≡ toldOf (postingOf posting) ⌝ }
+pub fn tell_posting(posting: Posting) -> Reply
+    ensures { λ r. ⌜ r ≡ replyOf (postingOf posting) ⌝ }
 {
     match posting {
         Posting::Earned(fee) => done(fee.0, 0),
@@ -94,8 +94,8 @@ pub fn tell_posting(posting: Posting) -> Told
 }
 
 // What a payment says.
-pub fn tell_payment(payment: Payment) -> Told
-    ensures { λ r. ⌜ r ≡ toldOf (paymentOf payment) ⌝ }
+pub fn tell_payment(payment: Payment) -> Reply
+    ensures { λ r. ⌜ r ≡ replyOf (paymentOf payment) ⌝ }
 {
     match payment {
         Payment::Paid(amount) => done(amount.0, 0),
@@ -104,8 +104,8 @@ pub fn tell_payment(payment: Payment) -> Told
 }
 
 // What a return of amounts says.
-pub fn tell_amounts(returning: Returning) -> Told
-    ensures { λ r. ⌜ r ≡ toldOf (returningOf K returning) ⌝ }
+pub fn tell_amounts(returning: Returning) -> Reply
+    ensures { λ r. ⌜ r ≡ replyOf (returningOf K returning) ⌝ }
 {
     match returning {
         Returning::Amounts(amount, count) => done(amount.0, count),
@@ -115,8 +115,8 @@ pub fn tell_amounts(returning: Returning) -> Told
 }
 
 // What a return of fees says.
-pub fn tell_fees(returning: Returning) -> Told
-    ensures { λ r. ⌜ r ≡ toldOf (returningOf O returning) ⌝ }
+pub fn tell_fees(returning: Returning) -> Reply
+    ensures { λ r. ⌜ r ≡ replyOf (returningOf O returning) ⌝ }
 {
     match returning {
         Returning::Amounts(_, _) => done(0, 0),
@@ -126,8 +126,8 @@ pub fn tell_fees(returning: Returning) -> Told
 }
 
 // What a return of either money says.
-pub fn tell_returning(money: Money, returning: Returning) -> Told
-    ensures { λ r. ⌜ r ≡ toldOf (returningOf money returning) ⌝ }
+pub fn tell_returning(money: Money, returning: Returning) -> Reply
+    ensures { λ r. ⌜ r ≡ replyOf (returningOf money returning) ⌝ }
 {
     match money {
         Money::K => tell_amounts(returning),
