@@ -1,18 +1,20 @@
 -- Worked examples of the definitions, each computed.
 -- Assumes nothing.
 use mathlib.Core.Path.{_≡_, refl}
+use mathlib.Core.Bool.{true, false}
 use mathlib.Core.List.{List, [], _∷_, map}
 use Prim.Native.Nat.{ℕ}
 use Prim.Native.String.{String}
 use Rattle.text.specs.Bytes.{digit}
 use Rattle.text.specs.Quoted.{bytes}
 use Rattle.text.specs.Number.{numberAfter, number}
-use Rattle.money.specs.Money.{amountWithin, feeWithin, orderAmount, orderFee, sumAmount, sumFee}
+use Rattle.money.specs.Money.{fee, isOrderAmount, isOrderFee, isSum, isTotal, sumOf, transferOf}
 use Rattle.money.specs.Text.{together, textOf, orderText, sumText}
 use Rattle.money.specs.declared.AmountRead.{AmountRead}
 use Rattle.money.specs.declared.AmountRead.the-variants.{Is as AmountIs, Not as NoAmount}
-use Rattle.money.specs.declared.FeeRead.{FeeRead}
-use Rattle.money.specs.declared.FeeRead.the-variants.{Is as FeeIs, Not as NoFee}
+use Rattle.money.specs.declared.Money.the-variants.{O}
+use Rattle.money.specs.declared.Sum.the-variants.{Fees}
+use Rattle.money.specs.declared.Transfer.the-variants.{Of, Not as NoTransfer}
 
 abbrev orderTexts : List String → List AmountRead
 orderTexts = map (λ s. orderText (bytes s))
@@ -22,9 +24,6 @@ sumTexts = map (λ s. sumText (bytes s))
 
 abbrev amount : ℕ → AmountRead
 amount grosze = AmountIs (record { 0 = grosze })
-
-abbrev fee : ℕ → FeeRead
-fee grosze = FeeIs (record { 0 = grosze })
 
 order-texts : orderTexts ("0.00" ∷ "0.01" ∷ "0000001.50" ∷ "9999999.99" ∷ [])
     ≡ amount 0 ∷ amount 1 ∷ amount 150 ∷ amount 999_999_999 ∷ []
@@ -48,19 +47,19 @@ sum-texts : sumTexts ("00000000000.00" ∷ "99999999999.99" ∷ "000000000000.00
 unfolding textOf together number numberAfter digit
 sum-texts = refl
 
-order-amounts : map orderAmount (0 ∷ 1 ∷ 999_999_999 ∷ 1_000_000_000 ∷ []) ≡ NoAmount ∷ amount 1 ∷ amount 999_999_999 ∷ NoAmount ∷ []
-unfolding amountWithin
-order-amounts = refl
+in-range : map isOrderAmount (0 ∷ 1 ∷ 999_999_999 ∷ 1_000_000_000 ∷ []) ≡ false ∷ true ∷ true ∷ false ∷ []
+in-range = refl
 
-order-fees : map orderFee (0 ∷ 1 ∷ 999_999_999 ∷ 1_000_000_000 ∷ []) ≡ fee 0 ∷ fee 1 ∷ fee 999_999_999 ∷ NoFee ∷ []
-unfolding feeWithin
-order-fees = refl
+fees-in-range : map isOrderFee (0 ∷ 1 ∷ 999_999_999 ∷ 1_000_000_000 ∷ []) ≡ true ∷ true ∷ true ∷ false ∷ []
+fees-in-range = refl
 
-sum-amounts : map sumAmount (0 ∷ 1 ∷ 9_999_999_999_999 ∷ 10_000_000_000_000 ∷ [])
-    ≡ amount 0 ∷ amount 1 ∷ amount 9_999_999_999_999 ∷ NoAmount ∷ []
-unfolding amountWithin
-sum-amounts = refl
+sums-in-range : map isSum (0 ∷ 1 ∷ 9_999_999_999_999 ∷ 10_000_000_000_000 ∷ []) ≡ true ∷ true ∷ true ∷ false ∷ []
+sums-in-range = refl
 
-sum-fees : map sumFee (0 ∷ 1 ∷ 9_999_999_999_999 ∷ 10_000_000_000_000 ∷ []) ≡ fee 0 ∷ fee 1 ∷ fee 9_999_999_999_999 ∷ NoFee ∷ []
-unfolding feeWithin
-sum-fees = refl
+transfers : map (transferOf O) (0 ∷ 1 ∷ 9_999_999_999_999 ∷ 10_000_000_000_000 ∷ [])
+    ≡ NoTransfer ∷ Of (Fees (fee 1)) ∷ Of (Fees (fee 9_999_999_999_999)) ∷ NoTransfer ∷ []
+unfolding transferOf sumOf
+transfers = refl
+
+totals-in-range : map isTotal (999_999_999_999_999 ∷ 1_000_000_000_000_000 ∷ []) ≡ true ∷ false ∷ []
+totals-in-range = refl

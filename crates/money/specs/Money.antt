@@ -1,11 +1,25 @@
 -- "Money is whole grosze. Amounts (K) and fees (O) are two moneys and never add."
 use mathlib.Core.Bool.{Bool, true, false, cond}
 use Prim.Native.Nat.{ℕ, _≤_}
+use lib.Dec.{leb}
 use Rattle.text.specs.Bytes.{between}
+use Rattle.money.specs.declared.Amount.{Amount}
 use Rattle.money.specs.declared.AmountRead.{AmountRead}
 use Rattle.money.specs.declared.AmountRead.the-variants.{Is as AmountIs, Not as NoAmount}
-use Rattle.money.specs.declared.FeeRead.{FeeRead}
-use Rattle.money.specs.declared.FeeRead.the-variants.{Is as FeeIs, Not as NoFee}
+use Rattle.money.specs.declared.Fee.{Fee}
+use Rattle.money.specs.declared.Money.{Money}
+use Rattle.money.specs.declared.Money.the-variants.{K, O}
+use Rattle.money.specs.declared.Sum.{Sum}
+use Rattle.money.specs.declared.Sum.the-variants.{Amounts, Fees}
+use Rattle.money.specs.declared.Transfer.{Transfer}
+use Rattle.money.specs.declared.Transfer.the-variants.{Of, Not as NoTransfer}
+
+-- Grosze as either money.
+abbrev pub amount : ℕ → Amount
+amount grosze = record { 0 = grosze }
+
+abbrev pub fee : ℕ → Fee
+fee grosze = record { 0 = grosze }
 
 -- "Both caps belong to the money, not to the callers": what an order can hold of a money, and what a sum can come to.
 abbrev pub orderCap : ℕ
@@ -14,26 +28,53 @@ orderCap = 999_999_999
 abbrev pub sumCap : ℕ
 sumCap = 9_999_999_999_999
 
--- A number of grosze from low to high as an amount, and as a fee.
-unfoldable pub amountWithin : ℕ → ℕ → ℕ → AmountRead
-amountWithin low high grosze = cond (between low high grosze) (AmountIs (record { 0 = grosze })) NoAmount
-
-unfoldable pub feeWithin : ℕ → ℕ → ℕ → FeeRead
-feeWithin low high grosze = cond (between low high grosze) (FeeIs (record { 0 = grosze })) NoFee
+-- What a total of the balance sheet can come to: "no total above 999,999,999,999,999".
+abbrev pub totalCap : ℕ
+totalCap = 999_999_999_999_999
 
 -- "An order's amount is 1 to 999,999,999." A fee is 0 to 999,999,999.
-abbrev pub orderAmount : ℕ → AmountRead
-orderAmount grosze = amountWithin 1 orderCap grosze
+abbrev pub isOrderAmount : ℕ → Bool
+isOrderAmount grosze = between 1 orderCap grosze
 
-abbrev pub orderFee : ℕ → FeeRead
-orderFee grosze = feeWithin 0 orderCap grosze
+abbrev pub isOrderFee : ℕ → Bool
+isOrderFee grosze = leb grosze orderCap
 
--- A sum of either money is 0 to 9,999,999,999,999.
-abbrev pub sumAmount : ℕ → AmountRead
-sumAmount grosze = amountWithin 0 sumCap grosze
+-- A sum of either money is 0 to 9,999,999,999,999, and a transfer is a sum above zero.
+abbrev pub isSum : ℕ → Bool
+isSum grosze = leb grosze sumCap
 
-abbrev pub sumFee : ℕ → FeeRead
-sumFee grosze = feeWithin 0 sumCap grosze
+abbrev pub isTransfer : ℕ → Bool
+isTransfer grosze = between 1 sumCap grosze
+
+abbrev pub isTotal : ℕ → Bool
+isTotal grosze = leb grosze totalCap
+
+-- Grosze within a cap, as a proof has it.
+abbrev pub WithinOrder : ℕ → Type 0
+WithinOrder grosze = grosze ≤ orderCap
+
+abbrev pub WithinSum : ℕ → Type 0
+WithinSum grosze = grosze ≤ sumCap
+
+abbrev pub WithinTotal : ℕ → Type 0
+WithinTotal grosze = grosze ≤ totalCap
+
+-- A sum of one money.
+unfoldable pub sumOf : Money → ℕ → Sum
+sumOf K grosze = Amounts (amount grosze)
+sumOf O grosze = Fees (fee grosze)
+
+unfoldable pub groszeIn : Sum → ℕ
+groszeIn (Amounts amount) = amount .0
+groszeIn (Fees fee) = fee .0
+
+unfoldable pub moneyIn : Sum → Money
+moneyIn (Amounts amount) = K
+moneyIn (Fees fee) = O
+
+-- A transfer of a money, or none.
+unfoldable pub transferOf : Money → ℕ → Transfer
+transferOf money grosze = cond (isTransfer grosze) (Of (sumOf money grosze)) NoTransfer
 
 unfoldable pub isAmount : AmountRead → Bool
 isAmount (AmountIs amount) = true

@@ -1,9 +1,10 @@
-// Money in whole grosze: amounts (K) and fees (O), two types with their caps and constructors, which nothing adds to each other.
+// Money in whole grosze: amounts (K) and fees (O), two types with their caps, tests and constructors, which nothing adds to each other.
 // The texts of an order's amount and of a sum.
 ghost use mathlib.Core.Path.{_≡_};
 ghost use Prim.Native.Nat.{_+_, _-_, _^_, _≤_};
 ghost use Rattle.text.specs.Number.{Below};
-ghost use Rattle.money.specs.Money.{orderCap, sumCap, amountWithin, feeWithin, orderAmount, orderFee, sumAmount, sumFee, isAmount, groszeOf, AtMost};
+ghost use Rattle.money.specs.Money.{amount, fee, orderCap, sumCap, isOrderAmount, isOrderFee, isSum, isTransfer, isTotal};
+ghost use Rattle.money.specs.Money.{WithinOrder, WithinSum, WithinTotal, sumOf, groszeIn, moneyIn, transferOf, isAmount, groszeOf, AtMost};
 ghost use Rattle.money.specs.Text.{together, textOf, orderText, sumText};
 use text::bytes::byte_at;
 use text::bytes::slice;
@@ -31,9 +32,15 @@ pub enum AmountRead {
     Not,
 }
 
-// A fee, or a refusal.
-pub enum FeeRead {
-    Is(Fee),
+// A sum of one money: code that serves both keeps them apart by it.
+pub enum Sum {
+    Amounts(Amount),
+    Fees(Fee),
+}
+
+// A transfer of one money, or a refusal.
+pub enum Transfer {
+    Of(Sum),
     Not,
 }
 
@@ -44,18 +51,69 @@ impl Amount {
     // The most that a sum comes to.
     pub const SUM_CAP: u64 = 9_999_999_999_999;
 
-    // The grosze as an order's amount.
-    pub fn of_order(grosze: u64) -> AmountRead
-        ensures { λ r. ⌜ r ≡ orderAmount grosze ⌝ }
+    // The most that a total of the balance sheet comes to.
+    pub const TOTAL_CAP: u64 = 999_999_999_999_999;
+
+    // The grosze as an order's amount, within its cap.
+    pub fn order(grosze: u64) -> Amount
+        requires { ⌜ WithinOrder grosze ⌝ }
+        ensures { λ r. ⌜ r ≡ amount grosze ⌝ }
     {
-        Self::within(1, Self::ORDER_CAP, grosze)
+        Amount(grosze)
     }
 
-    // The grosze as a sum of amounts.
-    pub fn of_sum(grosze: u64) -> AmountRead
-        ensures { λ r. ⌜ r ≡ sumAmount grosze ⌝ }
+    // The grosze as a sum of amounts, within its cap.
+    pub fn sum(grosze: u64) -> Amount
+        requires { ⌜ WithinSum grosze ⌝ }
+        ensures { λ r. ⌜ r ≡ amount grosze ⌝ }
     {
-        Self::within(0, Self::SUM_CAP, grosze)
+        Amount(grosze)
+    }
+
+    // The grosze as a total of amounts, within its cap.
+    pub fn total(grosze: u64) -> Amount
+        requires { ⌜ WithinTotal grosze ⌝ }
+        ensures { λ r. ⌜ r ≡ amount grosze ⌝ }
+    {
+        Amount(grosze)
+    }
+
+    // Is it an order's amount?
+    pub fn is_order(self) -> bool
+        ensures { λ r. ⌜ r ≡ isOrderAmount (self .0) ⌝ }
+    {
+        is_between(1, Self::ORDER_CAP, self.0)
+    }
+
+    // Are the grosze a sum of amounts?
+    pub fn is_sum(grosze: u64) -> bool
+        ensures { λ r. ⌜ r ≡ isSum grosze ⌝ }
+    {
+        grosze <= Self::SUM_CAP
+    }
+
+    // Are the grosze a transfer of amounts?
+    pub fn is_transfer(grosze: u64) -> bool
+        ensures { λ r. ⌜ r ≡ isTransfer grosze ⌝ }
+    {
+        is_between(1, Self::SUM_CAP, grosze)
+    }
+
+    // Are the grosze a total of amounts?
+    pub fn is_total(grosze: u64) -> bool
+        ensures { λ r. ⌜ r ≡ isTotal grosze ⌝ }
+    {
+        grosze <= Self::TOTAL_CAP
+    }
+
+    // The amount less another, nothing where the other is more.
+    pub fn less(self, other: Amount) -> Amount
+        ensures { λ r. ⌜ r ≡ amount (self .0 - other .0) ⌝ }
+    {
+        if self.0 <= other.0 {
+            return Amount(0);
+        }
+        Amount(self.0 - other.0)
     }
 
     // What a text says as an order's amount.
@@ -73,16 +131,6 @@ impl Amount {
     {
         read(text, 11)
     }
-
-    // The grosze as an amount, if they are from `low` to `high`.
-    fn within(low: u64, high: u64, grosze: u64) -> AmountRead
-        ensures { λ r. ⌜ r ≡ amountWithin low high grosze ⌝ }
-    {
-        if is_between(low, high, grosze) {
-            return AmountRead::Is(Amount(grosze));
-        }
-        AmountRead::Not
-    }
 }
 
 impl Fee {
@@ -91,28 +139,131 @@ impl Fee {
 
     pub const SUM_CAP: u64 = Amount::SUM_CAP;
 
-    // The grosze as an order's fee.
-    pub fn of_order(grosze: u64) -> FeeRead
-        ensures { λ r. ⌜ r ≡ orderFee grosze ⌝ }
+    pub const TOTAL_CAP: u64 = Amount::TOTAL_CAP;
+
+    // The grosze as an order's fee, within its cap.
+    pub fn order(grosze: u64) -> Fee
+        requires { ⌜ WithinOrder grosze ⌝ }
+        ensures { λ r. ⌜ r ≡ fee grosze ⌝ }
     {
-        Self::within(0, Self::ORDER_CAP, grosze)
+        Fee(grosze)
     }
 
-    // The grosze as a sum of fees.
-    pub fn of_sum(grosze: u64) -> FeeRead
-        ensures { λ r. ⌜ r ≡ sumFee grosze ⌝ }
+    // The grosze as a sum of fees, within its cap.
+    pub fn sum(grosze: u64) -> Fee
+        requires { ⌜ WithinSum grosze ⌝ }
+        ensures { λ r. ⌜ r ≡ fee grosze ⌝ }
     {
-        Self::within(0, Self::SUM_CAP, grosze)
+        Fee(grosze)
     }
 
-    // The grosze as a fee, if they are from `low` to `high`.
-    fn within(low: u64, high: u64, grosze: u64) -> FeeRead
-        ensures { λ r. ⌜ r ≡ feeWithin low high grosze ⌝ }
+    // The grosze as a total of fees, within its cap.
+    pub fn total(grosze: u64) -> Fee
+        requires { ⌜ WithinTotal grosze ⌝ }
+        ensures { λ r. ⌜ r ≡ fee grosze ⌝ }
     {
-        if is_between(low, high, grosze) {
-            return FeeRead::Is(Fee(grosze));
+        Fee(grosze)
+    }
+
+    // Is it an order's fee?
+    pub fn is_order(self) -> bool
+        ensures { λ r. ⌜ r ≡ isOrderFee (self .0) ⌝ }
+    {
+        self.0 <= Self::ORDER_CAP
+    }
+
+    // Are the grosze a sum of fees?
+    pub fn is_sum(grosze: u64) -> bool
+        ensures { λ r. ⌜ r ≡ isSum grosze ⌝ }
+    {
+        grosze <= Self::SUM_CAP
+    }
+
+    // Are the grosze a transfer of fees?
+    pub fn is_transfer(grosze: u64) -> bool
+        ensures { λ r. ⌜ r ≡ isTransfer grosze ⌝ }
+    {
+        is_between(1, Self::SUM_CAP, grosze)
+    }
+
+    // Are the grosze a total of fees?
+    pub fn is_total(grosze: u64) -> bool
+        ensures { λ r. ⌜ r ≡ isTotal grosze ⌝ }
+    {
+        grosze <= Self::TOTAL_CAP
+    }
+
+    // The fee less another, nothing where the other is more.
+    pub fn less(self, other: Fee) -> Fee
+        ensures { λ r. ⌜ r ≡ fee (self .0 - other .0) ⌝ }
+    {
+        if self.0 <= other.0 {
+            return Fee(0);
         }
-        FeeRead::Not
+        Fee(self.0 - other.0)
+    }
+}
+
+impl Sum {
+    // The grosze as a sum of a money, within its cap.
+    pub fn of(money: Money, grosze: u64) -> Sum
+        requires { ⌜ WithinSum grosze ⌝ }
+        ensures { λ r. ⌜ r ≡ sumOf money grosze ⌝ }
+    {
+        match money {
+            Money::K => Sum::Amounts(Amount::sum(grosze)),
+            Money::O => Sum::Fees(Fee::sum(grosze)),
+        }
+    }
+
+    // Are the grosze a sum of a money?
+    pub fn is_sum(money: Money, grosze: u64) -> bool
+        ensures { λ r. ⌜ r ≡ isSum grosze ⌝ }
+    {
+        match money {
+            Money::K => Amount::is_sum(grosze),
+            Money::O => Fee::is_sum(grosze),
+        }
+    }
+
+    // The grosze as a transfer of a money, or a refusal.
+    pub fn of_transfer(money: Money, grosze: u64) -> Transfer
+        ensures { λ r. ⌜ r ≡ transferOf money grosze ⌝ }
+    {
+        if !is_transfer(money, grosze) {
+            return Transfer::Not;
+        }
+        Transfer::Of(Self::of(money, grosze))
+    }
+
+    // Its grosze.
+    pub fn grosze(self) -> u64
+        ensures { λ r. ⌜ r ≡ groszeIn self ⌝ }
+    {
+        match self {
+            Sum::Amounts(amount) => amount.0,
+            Sum::Fees(fee) => fee.0,
+        }
+    }
+
+    // Its money.
+    pub fn money(self) -> Money
+        ensures { λ r. ⌜ r ≡ moneyIn self ⌝ }
+    {
+        match self {
+            Sum::Amounts(_) => Money::K,
+            Sum::Fees(_) => Money::O,
+        }
+    }
+}
+
+// Are the grosze a transfer of a money?
+fn is_transfer(money: Money, grosze: u64) -> bool
+    ensures { λ r. ⌜ r ≡ isTransfer grosze ⌝ }
+{
+    match money {
+        Money::K => Amount::is_transfer(grosze),
+        Money::O => Fee::is_transfer(grosze),
     }
 }
 
