@@ -9,6 +9,7 @@ use text::number::Number;
 use text::number::is_between;
 
 // The number that a date's eight digits yyyymmdd write.
+#[repr(C)]
 pub struct Date(pub u64);
 
 // What is read as a date.

@@ -18,7 +18,7 @@ use Rattle.calendar.specs.Reading.{dateOf, dateOfNumber, dateOfDigits, dateInWi
 use Rattle.calendar.specs.Time.{clockTime, timeOfNumber, timeOfDay}
 use Rattle.epe.specs.Questions.{firstNo}
 use Rattle.epe.specs.Ident.{identifier}
-use Rattle.epe.specs.Profile.{profileFits, feesFit}
+use Rattle.epe.specs.Profile.{feesOf, profileFits, feesFit}
 use Rattle.epe.specs.Name.{nameQuestions}
 use Rattle.epe.specs.File.{marked}
 use Rattle.epe.specs.Opening.{fileQuestions, fixedQuestions, repeatedQuestions, openingQuestions, opening}
@@ -42,7 +42,7 @@ file lines = 0xEF ∷ 0xBB ∷ 0xBF ∷ ended lines
 
 -- "F 350", today 7 October 2020, records of 19 fields.
 abbrev profile : Profile
-profile = record { today = record { 0 = 20201007 }; fees = 350 ∷ 350 ∷ 350 ∷ 350 ∷ 350 ∷ []; fields = 19 }
+profile = record { today = record { 0 = 20201007 }; fees = feesOf (350 ∷ 350 ∷ 350 ∷ 350 ∷ 350 ∷ []); fields = 19 }
 
 -- "ZS1: orders 100.00, 50.00 (no surname), 25.50."
 abbrev first : String
@@ -66,7 +66,7 @@ unfolding ascii tailOctet lead2 lead3 lead4 point2 point3 point4 surrogate range
 opens = opening
 
 holdsOrders : Profile → List ℕ → Verdict
-unfolding opens starts codePoints isAmount groszeOf textOf together inWindow dayNumber daysOfYears daysOfMonths dateOf dateOfNumber dateOfDigits dateInWindow clockTime timeOfNumber timeOfDay profileFits feesFit sized empty placed housed postcode extra spaced unspaced faultQuestions faultIn faultOf dateQuestions statedQuestions shaped allShaped allPriced total recordQuestions contentsQuestions contents orderOf orders faultyCount judgedOf
+unfolding opens starts codePoints isAmount groszeOf textOf together inWindow dayNumber daysOfYears daysOfMonths dateOf dateOfNumber dateOfDigits dateInWindow clockTime timeOfNumber timeOfDay profileFits feesFit feesOf sized empty placed housed postcode extra spaced unspaced faultQuestions faultIn faultOf dateQuestions statedQuestions shaped allShaped allPriced total recordQuestions contentsQuestions contents orderOf orders faultyCount judgedOf
 holdsOrders = contents
 
 abbrev order : ℕ → ℕ → Order

@@ -1,24 +1,63 @@
--- Fees judged one by one, from a place on.
+-- Five fees, judged one by one.
 -- Assumes nothing.
-use mathlib.Core.Path.{_≡_}
-use mathlib.Core.Bool.{true, false}
-use mathlib.Core.List.{List}
-use Prim.Native.Nat.{ℕ, _+_, _<_, _≤_}
-use borrow.Author.Tests.{le-leb, lt-leb}
-use lib.ListN.{length, getD, drop, drop-of-length-le}
-use Rattle.text.proofs.Places.{from-here}
-use Rattle.money.specs.Money.{orderCap}
-use Rattle.epe.specs.Profile.{feesFit}
+use mathlib.Core.Path.{_≡_, refl, _∙_, ap}
+use mathlib.Core.Bool.{Bool, true, false, _&&_}
+use mathlib.Core.List.{List, [], _∷_}
+use Prim.Native.Nat.{ℕ, zero, suc, _≤_}
+use native.Mathlib.Omega.{arith}
+use borrow.Author.Tests.{leb-true, lt-leb, leb-false}
+use lib.ListN.{length, getD}
+use Rattle.text.proofs.Branches.{and-left, and-right}
+use Rattle.money.specs.Money.{fee, orderCap, isOrderFee, isSum}
+use Rattle.money.specs.declared.Fee.{Fee}
+use Rattle.epe.specs.Profile.{feesOf, feesFit}
 
-module _ (fees : List ℕ) (i : ℕ) where
-  pub fees-on : i < length fees → getD fees i 0 ≤ orderCap → feesFit (drop i fees) ≡ feesFit (drop (i + 1) fees)
-  unfolding feesFit
-  fees-on h low = rw (from-here fees i h) (rw (le-leb (getD fees i 0) orderCap low))
+listed : {A : Type 0} (xs : List A) (none : A) → length xs ≡ 5
+    → xs ≡ getD xs 0 none ∷ getD xs 1 none ∷ getD xs 2 none ∷ getD xs 3 none ∷ getD xs 4 none ∷ []
+listed [] none h = absurd (omega arith)
+listed (a ∷ []) none h = absurd (omega arith)
+listed (a ∷ b ∷ []) none h = absurd (omega arith)
+listed (a ∷ b ∷ c ∷ []) none h = absurd (omega arith)
+listed (a ∷ b ∷ c ∷ d ∷ []) none h = absurd (omega arith)
+listed (a ∷ b ∷ c ∷ d ∷ e ∷ []) none h = refl
+listed (a ∷ b ∷ c ∷ d ∷ e ∷ f ∷ xs) none h = absurd (omega arith)
 
-  pub fees-above : i < length fees → orderCap < getD fees i 0 → feesFit (drop i fees) ≡ false
-  unfolding feesFit
-  fees-above h high = rw (from-here fees i h) (rw (lt-leb (getD fees i 0) orderCap high))
+and-yes : (t : Bool) → (t && true) ≡ t
+and-yes true = refl
+and-yes false = refl
 
-  pub fees-end : length fees ≤ i → feesFit (drop i fees) ≡ true
-  unfolding feesFit
-  fees-end h = rw (drop-of-length-le fees h)
+judged : (a b c d e : ℕ) → feesFit (fee a ∷ fee b ∷ fee c ∷ fee d ∷ fee e ∷ [])
+    ≡ (isOrderFee a && (isOrderFee b && (isOrderFee c && (isOrderFee d && isOrderFee e))))
+unfolding feesFit
+judged a b c d e = ap (λ t. isOrderFee a && (isOrderFee b && (isOrderFee c && (isOrderFee d && t)))) (and-yes (isOrderFee e))
+
+pub fees-judged : (fees : List Fee) → length fees ≡ 5
+    → feesFit fees
+    ≡ (isOrderFee (getD fees 0 (fee 0) .0)
+    && (isOrderFee (getD fees 1 (fee 0) .0)
+    && (isOrderFee (getD fees 2 (fee 0) .0) && (isOrderFee (getD fees 3 (fee 0) .0) && isOrderFee (getD fees 4 (fee 0) .0)))))
+fees-judged fees h = ap feesFit (listed fees (fee 0) h) ∙ judged _ _ _ _ _
+
+-- plain numbers, as fees
+module _ (numbers : List ℕ) (five : length numbers ≡ 5) where
+  pub fees-listed : feesOf numbers
+      ≡ fee (getD numbers 0 0) ∷ fee (getD numbers 1 0) ∷ fee (getD numbers 2 0) ∷ fee (getD numbers 3 0) ∷ fee (getD numbers 4 0) ∷ []
+  unfolding feesOf
+  fees-listed = ap feesOf (listed numbers 0 five)
+
+  pub numbers-judged : feesFit (feesOf numbers)
+      ≡ (isOrderFee (getD numbers 0 0)
+      && (isOrderFee (getD numbers 1 0)
+      && (isOrderFee (getD numbers 2 0) && (isOrderFee (getD numbers 3 0) && isOrderFee (getD numbers 4 0)))))
+  numbers-judged = ap feesFit fees-listed ∙ judged _ _ _ _ _
+
+-- each of fees that fit is within a fee's cap
+pub fee-within : (numbers : List ℕ) (i : ℕ) → feesFit (feesOf numbers) ≡ true → getD numbers i 0 ≤ orderCap
+unfolding feesFit feesOf
+fee-within [] i h = omega arith
+fee-within (n ∷ numbers) zero h = leb-true n orderCap (and-left (isOrderFee n) (feesFit (feesOf numbers)) h)
+fee-within (n ∷ numbers) (suc i) h = fee-within numbers i (and-right (isOrderFee n) (feesFit (feesOf numbers)) h)
+
+-- what is no sum is no fee
+pub no-sum-no-fee : (n : ℕ) → isSum n ≡ false → false ≡ isOrderFee n
+no-sum-no-fee n h = rw (lt-leb n orderCap (omega (arith, leb-false n _ h)))

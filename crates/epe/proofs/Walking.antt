@@ -108,7 +108,7 @@ pub record Going (fields : ℕ) (lines left : List (List ℕ)) (tally : Tally) (
       ≡ keptFrom before 0 (map orderOf (linesRead fields 1 lines))
   pub as-long : length kept ≡ length before
   pub few : tally .count ≤ 999_999
-  pub little : tally .sum ≤ tally .count * 999_999_999
+  pub little : tally .sum ≤ tally .count * 2 ^ 30
   pub fewer : tally .faulty ≤ tally .count
 
 pub going-start : (fields : ℕ) (lines : List (List ℕ)) (tally : Tally) (kept : List ℕ)

@@ -3,7 +3,7 @@ use mathlib.Core.Path.{_≡_}
 use mathlib.Core.List.{List, [], _∷_}
 use Prim.Native.Nat.{ℕ, _+_, _≤_}
 use lib.ListN.{length}
-use Rattle.money.specs.Money.{orderCap}
+use Rattle.money.specs.Money.{WithinOrder}
 use Rattle.epe.specs.File.{header}
 use Rattle.epe.specs.Contents.{statedCount, statedSum, contents, orders}
 use Rattle.epe.specs.declared.profile.Profile.{Profile}
@@ -18,7 +18,7 @@ sumOfAmounts (order ∷ orders) = order .amount .0 + sumOfAmounts orders
 -- "An order's amount is 1 to 999,999,999", and a fault is one of 1 to 10, or none.
 pub record OrderInRange (order : Order) : Type 0 where
   pub from-one : 1 ≤ order .amount .0
-  pub to-the-cap : order .amount .0 ≤ orderCap
+  pub to-the-cap : WithinOrder (order .amount .0)
   pub fault-known : order .fault ≤ 10
 
 abbrev pub EachInRange : List Order → Type 0

@@ -10,7 +10,7 @@ use Rattle.text.specs.Quoted.{bytes}
 use Rattle.text.specs.Number.{number, isNumber, valueOf}
 use Rattle.text.specs.Fields.{fields}
 use Rattle.text.specs.Lines.{stray}
-use Rattle.money.specs.Money.{isAmount, groszeOf}
+use Rattle.money.specs.Money.{amount, isAmount, groszeOf}
 use Rattle.money.specs.Text.{orderText, sumText}
 use Rattle.calendar.specs.Reading.{dateOfDigits, dateInWindow}
 use Rattle.calendar.specs.declared.date.Date.{Date}
@@ -106,7 +106,7 @@ contents profile file = firstNo (contentsQuestions profile file)
 
 -- The orders of a file whose questions are answered yes: a line each, its amount and its fault.
 unfoldable pub orderOf : List ℕ → Order
-orderOf line = record { amount = record { 0 = amountIn line }; fault = faultOf line }
+orderOf line = record { amount = amount (amountIn line); fault = faultOf line }
 
 unfoldable pub orders : List ℕ → List Order
 orders file = map orderOf (records file)

@@ -3,13 +3,13 @@ use mathlib.Core.Path.{_≡_}
 use mathlib.Core.List.{List, [], _∷_}
 use Prim.Native.Nat.{ℕ, zero, suc, _+_, _*_, _/_, _%_, _≤_}
 use lib.ListN.{length, getD, set}
-use Rattle.money.specs.Money.{orderCap}
+use Rattle.money.specs.Money.{WithinOrder}
 use Rattle.epe.specs.Accepted.{EachInRange}
 use Rattle.epe.specs.declared.record.Order.{Order}
 
 -- An order that an entry of 64 bits has room for.
 pub record Keepable (order : Order) : Type 0 where
-  pub to-the-cap : order .amount .0 ≤ orderCap
+  pub to-the-cap : WithinOrder (order .amount .0)
   pub fault-known : order .fault ≤ 10
 
 -- An order as one number: sixteen times its amount, and its fault.

@@ -2,12 +2,12 @@
 use mathlib.Core.Path.{_≡_}
 use mathlib.Core.Bool.{true, cond, _&&_}
 use mathlib.Core.List.{List, _++_, map}
-use Prim.Native.Nat.{ℕ, _+_, _*_, _≤_}
+use Prim.Native.Nat.{ℕ, _+_, _*_, _^_, _≤_}
 use lib.Dec.{eqb, leb, ltb}
 use lib.ListN.{length}
 use Rattle.epe.specs.Contents.{dateQuestions, statedQuestions, statedCount, statedSum, shaped, allShaped, allPriced, total, orderOf, faultyCount, linesRead}
 use Rattle.epe.specs.Kept.{keptFrom}
-use Rattle.money.specs.Money.{orderCap}
+use Rattle.money.specs.Money.{WithinOrder}
 use Rattle.calendar.specs.declared.date.Date.{Date}
 use Rattle.epe.specs.Questions.{firstNo}
 use Rattle.epe.specs.declared.file.Judged.{Judged}
@@ -22,7 +22,7 @@ use Rattle.epe.specs.declared.record.RecordRead.{RecordRead}
 pub record RecordOf (r n : ℕ) (line : List ℕ) (read : RecordRead) : Type 0 where
   pub its-shape : read .shaped ≡ (leb r 32 && shaped r n line)
   pub its-order : read .order ≡ orderOf line
-  pub within-cap : read .order .amount .0 ≤ orderCap
+  pub within-cap : WithinOrder (read .order .amount .0)
 
 -- One order more.
 unfoldable pub added : Tally → Order → Tally
@@ -46,9 +46,9 @@ pub record Tallied (fields : ℕ) (lines : List (List ℕ)) (tally : Tally) (bef
 -- What is added stays within 64 bits.
 pub record Small (tally : Tally) (order : Order) : Type 0 where
   pub few : tally .count ≤ 999_999
-  pub little : tally .sum ≤ tally .count * 999_999_999
+  pub little : tally .sum ≤ tally .count * 2 ^ 30
   pub fewer : tally .faulty ≤ tally .count
-  pub bounded : order .amount .0 ≤ 999_999_999
+  pub bounded : WithinOrder (order .amount .0)
 
 -- What a header states, and what its questions 102 to 131 come to.
 pub record StatedOf (today : Date) (line : List ℕ) (stated : Stated) : Type 0 where

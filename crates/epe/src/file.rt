@@ -53,6 +53,7 @@ pub enum Judged {
 }
 
 // What the record lines so far come to: whether all are shaped and priced, how many they are, their sum, and how many orders are faulty.
+// Their sum is a plain number: 999,999 amounts can pass the cap of a sum, and only one that equals the header's is taken.
 pub struct Tally {
     pub shaped: bool,
     pub priced: bool,

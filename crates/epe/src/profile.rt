@@ -1,34 +1,66 @@
 // The profile of an intake.
 ghost use mathlib.Core.Path.{_≡_};
-ghost use Rattle.epe.specs.Questions.{firstNo};
-ghost use Rattle.epe.specs.Profile.{feesFit, profileFits, profileQuestions};
-use crate::refusals;
-use crate::verdict::Verdict;
-use crate::verdict::ask;
+ghost use mathlib.Core.Bool.{true, _&&_};
+ghost use lib.Dec.{eqb};
+ghost use lib.ListN.{length};
+ghost use Rattle.money.specs.Money.{isOrderFee};
+ghost use Rattle.epe.specs.Profile.{feesOf, feesFit, profileFits};
 use calendar::date::Date;
 use calendar::date::is_real;
 use money::Fee;
 use text::number::is_between;
 
 // Today, the fees by benefit kind 0 to 4, and the number of fields in a record line.
+#[repr(C)]
 pub struct Profile {
     pub today: Date,
-    pub fees: [u64; 5],
+    pub fees: [Fee; 5],
     pub fields: u64,
 }
 
-// Is each fee within a fee's cap?
-fn fees_fit(fees: &[u64]) -> bool
-    ensures { λ r. ⌜ r ≡ feesFit (now (fees .entry)) ⌝ }
+// Is a number a fee?
+fn is_fee(number: u64) -> bool
+    ensures { λ r. ⌜ r ≡ isOrderFee number ⌝ }
 {
-    let mut i = 0;
-    while i < fees.len() {
-        if Fee::ORDER_CAP < fees[i] {
-            return false;
-        }
-        i += 1;
+    if !Fee::is_sum(number) {
+        return false;
     }
-    true
+    Fee::sum(number).is_order()
+}
+
+// Are five numbers fees?
+pub fn are_fees(numbers: [u64; 5]) -> bool
+    ensures { λ r. ⌜ r ≡ feesFit (feesOf numbers) ⌝ }
+{
+    is_fee(numbers[0])
+        & (is_fee(numbers[1]) & (is_fee(numbers[2]) & (is_fee(numbers[3]) & is_fee(numbers[4]))))
+}
+
+// Five numbers as fees.
+pub fn fees_of(numbers: [u64; 5]) -> [Fee; 5]
+    requires { ⌜ feesFit (feesOf numbers) ≡ true ⌝ }
+    ensures { λ r. ⌜ r ≡ feesOf numbers ⌝ }
+{
+    [
+        Fee::order(numbers[0]),
+        Fee::order(numbers[1]),
+        Fee::order(numbers[2]),
+        Fee::order(numbers[3]),
+        Fee::order(numbers[4]),
+    ]
+}
+
+// Are they five fees, each within its cap?
+fn fees_fit(fees: [Fee; 5]) -> bool
+    ensures { λ r. ⌜ r ≡ (eqb (length fees) 5 && feesFit fees) ⌝ }
+{
+    let first = fees[0];
+    let second = fees[1];
+    let third = fees[2];
+    let fourth = fees[3];
+    let fifth = fees[4];
+    first.is_order()
+        & (second.is_order() & (third.is_order() & (fourth.is_order() & fifth.is_order())))
 }
 
 // Is the profile within its ranges?
@@ -38,12 +70,5 @@ pub fn profile_fits(profile: Profile) -> bool
     let today = profile.today;
     let fees = profile.fees;
     let fields = profile.fields;
-    is_real(today) && (fees_fit(&fees) && is_between(19, 32, fields))
-}
-
-// The one question of a profile.
-pub fn judge_profile(profile: Profile) -> Verdict
-    ensures { λ r. ⌜ r ≡ firstNo (profileQuestions profile) ⌝ }
-{
-    ask(Verdict::Passed, profile_fits(profile), refusals::PROFILE)
+    is_real(today) && (fees_fit(fees) && is_between(19, 32, fields))
 }

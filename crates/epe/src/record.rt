@@ -8,7 +8,7 @@ ghost use Rattle.text.specs.Bytes.{same};
 ghost use Rattle.text.specs.Quoted.{bytes};
 ghost use Rattle.text.specs.Number.{number, isNumber, valueOf};
 ghost use Rattle.text.specs.Utf8.{codePoints};
-ghost use Rattle.money.specs.Money.{orderCap};
+ghost use Rattle.money.specs.Money.{WithinOrder};
 ghost use Rattle.epe.specs.File.{field};
 ghost use Rattle.epe.specs.Cut.{CutOf};
 ghost use Rattle.epe.specs.Questions.{firstNo};
@@ -293,7 +293,7 @@ fn fault(line: &[u8], table: &[usize], count: usize) -> u64
 // The amount that field 3 reads, in grosze; 0 where it reads none.
 fn amount(line: &[u8], table: &[usize], count: usize) -> u64
     requires { ⌜ CutOf (now line) (now table) count ⌝ }
-    ensures { λ r. ⌜ (r ≡ amountIn (now (line .entry))) × (r ≤ orderCap) ⌝ }
+    ensures { λ r. ⌜ (r ≡ amountIn (now (line .entry))) × WithinOrder r ⌝ }
 {
     grosze_of(Amount::read_order(field_of(line, table, count, 3)))
 }
@@ -301,10 +301,10 @@ fn amount(line: &[u8], table: &[usize], count: usize) -> u64
 // The order of a line.
 fn order_of(line: &[u8], table: &[usize], count: usize) -> Order
     requires { ⌜ CutOf (now line) (now table) count ⌝ }
-    ensures { λ r. ⌜ (r ≡ orderOf (now (line .entry))) × (r .amount .0 ≤ orderCap) ⌝ }
+    ensures { λ r. ⌜ (r ≡ orderOf (now (line .entry))) × WithinOrder (r .amount .0) ⌝ }
 {
     Order {
-        amount: Amount(amount(line, table, count)),
+        amount: Amount::order(amount(line, table, count)),
         fault: fault(line, table, count),
     }
 }

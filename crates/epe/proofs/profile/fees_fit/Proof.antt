@@ -1,59 +1,73 @@
--- `epe::profile::fees_fit` is `feesFit`.
-use mathlib.Core.Path.{_≡_, refl, sym, _∙_}
-use Prim.Native.Nat.{_-_}
-use native.Mathlib.Omega.{arith}
+-- `epe::profile::fees_fit` judges the five one by one.
+use mathlib.Core.Path.{_≡_}
+use lib.ListN.{length}
+use borrow.Author.Tests.{eq-eqb}
+use Rattle.epe.proofs.ProfileLaws.{fees-judged}
 use borrow.Author.Needs.{needs}
-use lib.ListN.{length, drop}
-use Rattle.epe.specs.Profile.{feesFit}
-use Rattle.epe.proofs.ProfileLaws.{fees-on, fees-above, fees-end}
 use Rattle.epe.proofs.profile.fees_fit.Statement.{statement}
 use Rattle.epe.proofs.profile.fees_fit.Tie as tie
 
-abbrev Inv-loop : tie.InvT-loop
-Inv-loop fees i₀ i = feesFit (drop i fees) ≡ feesFit fees
+array-copy-out-first : tie.Need-array-copy-out-first
+array-copy-out-first c = search needs
 
-abbrev μ-loop : tie.MeasureT-loop
-μ-loop fees i₀ i = length fees - i
+array-copy-out-second : tie.Need-array-copy-out-second
+array-copy-out-second c = search needs
 
-loop-holds : tie.Need-loop-holds Inv-loop μ-loop
-loop-holds c = refl
+array-copy-out-third : tie.Need-array-copy-out-third
+array-copy-out-third c = search needs
 
-mul-if1 : tie.Need-mul-if1 Inv-loop μ-loop
-mul-if1 c = search needs
+array-copy-out-fourth : tie.Need-array-copy-out-fourth
+array-copy-out-fourth c = search needs
 
-shared-slice-read-if1 : tie.Need-shared-slice-read-if1 Inv-loop μ-loop
-shared-slice-read-if1 c = search needs
+array-copy-out-fifth : tie.Need-array-copy-out-fifth
+array-copy-out-fifth c = search needs
 
-returns : tie.Need-returns Inv-loop μ-loop
+is-order-requires : tie.Need-is-order-requires
+is-order-requires c κs = search needs
+
+is-order-requires-2 : tie.Need-is-order-requires-2
+is-order-requires-2 c κs = search needs
+
+is-order-requires-3 : tie.Need-is-order-requires-3
+is-order-requires-3 c κs = search needs
+
+is-order-requires-4 : tie.Need-is-order-requires-4
+is-order-requires-4 c κs = search needs
+
+is-order-requires-5 : tie.Need-is-order-requires-5
+is-order-requires-5 c κs = search needs
+
+returns : tie.Need-returns
 returns c =
-    let turn = c .before .before .before in
-    sym (fees-above (turn .before .args .fees .now) (turn .loop .i) (omega arith) (c .if1 .taken)) ∙ turn .loop .inv
-
-add-i : tie.Need-add-i Inv-loop μ-loop
-add-i c = search needs
-
-loop-less : tie.Need-loop-less Inv-loop μ-loop
-loop-less c = search needs
-
-loop-again : tie.Need-loop-again Inv-loop μ-loop
-loop-again c =
-    let turn = c .before .before .before in
-    sym (fees-on (turn .before .args .fees .now) (turn .loop .i) (omega arith) (c .if1 .left)) ∙ turn .loop .inv
-
-returns-2 : tie.Need-returns-2 Inv-loop μ-loop
-returns-2 c = sym (fees-end (c .before .before .args .fees .now) (c .before .loop .i) (omega arith)) ∙ c .before .loop .inv
+    let fifth = c in
+    let fourth = fifth .before in
+    let third = fourth .before in
+    let second = third .before in
+    let first = second .before in
+    let start = first .before .before .before .before .before .before in
+    let five : length (start .args .t1) ≡ 5 = search needs in
+    rw (
+      eq-eqb (length (start .args .t1)) 5 five,
+      fees-judged (start .args .t1) five,
+      first .is-order .ensures,
+      second .is-order2 .ensures,
+      third .is-order3 .ensures,
+      fourth .is-order4 .ensures,
+      fifth .is-order5 .ensures,
+    )
 
 pub fees-fit-spec : {M : Type 1} → statement M
 fees-fit-spec =
     tie.close
     (tie.spec
-    Inv-loop
-    μ-loop
-    loop-holds
-    mul-if1
-    shared-slice-read-if1
-    returns
-    add-i
-    loop-less
-    loop-again
-    returns-2)
+    array-copy-out-first
+    array-copy-out-second
+    array-copy-out-third
+    array-copy-out-fourth
+    array-copy-out-fifth
+    is-order-requires
+    is-order-requires-2
+    is-order-requires-3
+    is-order-requires-4
+    is-order-requires-5
+    returns)

@@ -1,17 +1,12 @@
 -- `epe::profile::profile_fits` is `profileFits`: it asks the definition's questions in its order.
-use mathlib.Core.Path.{_≡_}
-use borrow.Author.Needs.{needs}
-use lib.ListN.{length}
 use Rattle.text.proofs.Branches.{branches}
 use Rattle.epe.specs.Profile.{profileFits}
+use borrow.Author.Needs.{needs}
 use Rattle.epe.proofs.profile.profile_fits.Statement.{statement}
 use Rattle.epe.proofs.profile.profile_fits.Tie as tie
 
 is-real-requires : tie.Need-is-real-requires
 is-real-requires c κs = search needs
-
-slice-aggregate-fees-fit : tie.Need-slice-aggregate-fees-fit
-slice-aggregate-fees-fit c = search needs
 
 fees-fit-requires : tie.Need-fees-fit-requires
 fees-fit-requires c κs = search needs
@@ -21,10 +16,7 @@ is-between-requires c κs = search needs
 
 returns : tie.Need-returns
 unfolding profileFits
-returns c =
-    let start = c .before .before .before .before .before .before .before .before in
-    let five : length (start .args .profile .fees) ≡ 5 = search needs in
-    search branches depth 12
+returns c = search branches depth 12
 
 returns-2 : tie.Need-returns-2
 unfolding profileFits
@@ -37,11 +29,4 @@ returns-3 c = search branches depth 12
 pub profile-fits-spec : {M : Type 1} → statement M
 profile-fits-spec =
     tie.close
-    (tie.spec
-    is-real-requires
-    slice-aggregate-fees-fit
-    fees-fit-requires
-    is-between-requires
-    returns
-    returns-2
-    returns-3)
+    (tie.spec is-real-requires fees-fit-requires is-between-requires returns returns-2 returns-3)
