@@ -15,7 +15,7 @@ use Rattle.money.specs.Text.{orderText, sumText}
 use Rattle.calendar.specs.Reading.{dateOfDigits, dateInWindow}
 use Rattle.calendar.specs.declared.date.Date.{Date}
 use Rattle.calendar.specs.Time.{timeOfDay}
-use Rattle.epe.specs.Questions.{Question, _elseNo_, firstNo, isPassed}
+use Rattle.epe.specs.Questions.{Question, _elseNo_, firstNo}
 use Rattle.epe.specs.Profile.{profileFits}
 use Rattle.epe.specs.File.{header, records, field}
 use Rattle.epe.specs.Faults.{faultOf}
@@ -82,16 +82,17 @@ unfoldable pub total : List (List ℕ) → ℕ
 total [] = 0
 total (line ∷ lines) = amountIn line + total lines
 
-unfoldable pub recordQuestions : ℕ → List ℕ → List (List ℕ) → List Question
-recordQuestions r line lines =
+-- The records of R fields, beside the number of orders and the sum that the header states in its fields 11 and 12.
+unfoldable pub recordQuestions : ℕ → ℕ → ℕ → List (List ℕ) → List Question
+recordQuestions r count sum lines =
     -- "Every record line has R fields, no stray CR or LF, first field `2`, second 1 to 6 digits whose value counts 1, 2, 3 ..? 901"
     (allShaped r 1 lines elseNo 901)
     -- "Every field 3 reads as an amount, above zero? 902"
     ∷ (allPriced lines elseNo 902)
     -- "Number of record lines equals field 11? 129"
-    ∷ (eqb (length lines) (statedCount line) elseNo 129)
+    ∷ (eqb (length lines) count elseNo 129)
     -- "Amounts add up to field 12? 132"
-    ∷ (eqb (total lines) (statedSum line) elseNo 132)
+    ∷ (eqb (total lines) sum elseNo 132)
     ∷ []
 
 -- The questions 102 to 132, in order. 905 is asked here too, so that every profile has an answer.
@@ -99,7 +100,7 @@ unfoldable pub contentsQuestions : Profile → List ℕ → List Question
 contentsQuestions profile file =
     (profileFits profile elseNo 905)
     ∷ ((dateQuestions (profile .today) (header file) ++ statedQuestions (header file))
-    ++ recordQuestions (profile .fields) (header file) (records file))
+    ++ recordQuestions (profile .fields) (statedCount (header file)) (statedSum (header file)) (records file))
 
 unfoldable pub contents : Profile → List ℕ → Verdict
 contents profile file = firstNo (contentsQuestions profile file)
@@ -111,20 +112,17 @@ orderOf line = record { amount = amount (amountIn line); fault = faultOf line }
 unfoldable pub orders : List ℕ → List Order
 orders file = map orderOf (records file)
 
--- The orders that are read while a file is judged: none unless the profile and the header pass, and then those of the record lines up to the first
--- that is not in shape. Of a file that is accepted, they are its orders.
+-- The orders that are read while records of R fields are judged: those of the record lines up to the first that is not in shape.
+-- Of a file that is accepted, they are its orders.
 unfoldable pub linesRead : ℕ → ℕ → List (List ℕ) → List (List ℕ)
 linesRead r n [] = []
 linesRead r n (line ∷ lines) = cond (shaped r n line) (line ∷ linesRead r (n + 1) lines) []
 
-unfoldable pub ordersRead : Profile → List ℕ → List Order
-ordersRead profile file =
-    cond (profileFits profile && isPassed (firstNo (dateQuestions (profile .today) (header file) ++ statedQuestions (header file))))
-    (map orderOf (linesRead (profile .fields) 1 (records file)))
-    []
+unfoldable pub ordersRead : ℕ → List ℕ → List Order
+ordersRead r file = map orderOf (linesRead r 1 (records file))
 
 abbrev pub AcceptedIsRead : Type 0
-AcceptedIsRead = (profile : Profile) (file : List ℕ) → contents profile file ≡ Passed → ordersRead profile file ≡ orders file
+AcceptedIsRead = (profile : Profile) (file : List ℕ) → contents profile file ≡ Passed → ordersRead (profile .fields) file ≡ orders file
 
 -- "An accepted file answers its order count and its faulty count."
 unfoldable pub faultyCount : List Order → ℕ

@@ -1,9 +1,10 @@
 -- Orders kept in a table of numbers, one to an entry: those that a file was found to have while it was judged.
 use mathlib.Core.Path.{_≡_}
+use mathlib.Core.Bool.{cond}
 use mathlib.Core.List.{List, [], _∷_}
 use Prim.Native.Nat.{ℕ, zero, suc, _+_, _*_, _/_, _%_, _≤_}
 use lib.ListN.{length, getD, set}
-use Rattle.money.specs.Money.{WithinOrder}
+use Rattle.money.specs.Money.{amount, isOrderAmount, WithinOrder}
 use Rattle.epe.specs.Accepted.{EachInRange}
 use Rattle.epe.specs.declared.record.Order.{Order}
 
@@ -16,9 +17,13 @@ pub record Keepable (order : Order) : Type 0 where
 abbrev pub keptCode : Order → ℕ
 keptCode order = order .amount .0 * 16 + order .fault
 
--- The order that entry j of a table keeps, and those that n entries from the j-th on keep.
+-- The order that a number says. What is above an order's amount is none, and reads 0.
+unfoldable pub orderFrom : ℕ → Order
+orderFrom code = record { amount = amount (cond (isOrderAmount (code / 16)) (code / 16) 0); fault = code % 16 }
+
+-- The order that entry j of a table keeps, and those that n entries from the j-th on keep. Past the table's end it is as of an entry of 0.
 abbrev pub orderIn : List ℕ → ℕ → Order
-orderIn table j = record { amount = record { 0 = getD table j 0 / 16 }; fault = getD table j 0 % 16 }
+orderIn table j = orderFrom (getD table j 0)
 
 unfoldable pub ordersIn : List ℕ → ℕ → ℕ → List Order
 ordersIn table j zero = []

@@ -9,5 +9,6 @@ pub mod Faults
 pub mod Contents
 pub mod Accepted
 pub mod Kept
+pub mod Steps
 pub mod Walk
 pub mod Tally

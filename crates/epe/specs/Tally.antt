@@ -1,18 +1,15 @@
 -- What one look at a record line tells, and the tally that a walk over the records keeps.
 use mathlib.Core.Path.{_≡_}
 use mathlib.Core.Bool.{true, cond, _&&_}
-use mathlib.Core.List.{List, _++_, map}
+use mathlib.Core.List.{List, map}
 use Prim.Native.Nat.{ℕ, _+_, _*_, _^_, _≤_}
 use lib.Dec.{eqb, leb, ltb}
 use lib.ListN.{length}
-use Rattle.epe.specs.Contents.{dateQuestions, statedQuestions, statedCount, statedSum, shaped, allShaped, allPriced, total, orderOf, faultyCount, linesRead}
+use Rattle.epe.specs.Contents.{shaped, allShaped, allPriced, total, orderOf, faultyCount, linesRead}
 use Rattle.epe.specs.Kept.{keptFrom}
 use Rattle.money.specs.Money.{WithinOrder}
-use Rattle.calendar.specs.declared.date.Date.{Date}
-use Rattle.epe.specs.Questions.{firstNo}
 use Rattle.epe.specs.declared.file.Judged.{Judged}
 use Rattle.epe.specs.declared.file.Judged.the-variants.{Accepted, Refused as NotAccepted}
-use Rattle.epe.specs.declared.file.Stated.{Stated}
 use Rattle.epe.specs.declared.file.Tally.{Tally}
 use Rattle.epe.specs.declared.record.Order.{Order}
 use Rattle.epe.specs.declared.record.RecordRead.{RecordRead}
@@ -49,12 +46,6 @@ pub record Small (tally : Tally) (order : Order) : Type 0 where
   pub little : tally .sum ≤ tally .count * 2 ^ 30
   pub fewer : tally .faulty ≤ tally .count
   pub bounded : WithinOrder (order .amount .0)
-
--- What a header states, and what its questions 102 to 131 come to.
-pub record StatedOf (today : Date) (line : List ℕ) (stated : Stated) : Type 0 where
-  pub judged : stated .verdict ≡ firstNo (dateQuestions today line ++ statedQuestions line)
-  pub counted : stated .count ≡ statedCount line
-  pub summed : stated .sum ≡ statedSum line
 
 -- What a tally comes to beside what the header states: the questions 901, 902, 129, 132.
 unfoldable pub tallyJudged : Tally → ℕ → ℕ → Judged

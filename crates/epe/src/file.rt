@@ -4,23 +4,24 @@ ghost use mathlib.Core.Bool.{cond, _&&_};
 ghost use mathlib.Core.List.{_++_};
 ghost use Prim.Native.Nat.{_+_, _≤_};
 ghost use lib.Dec.{eqb, ltb};
-ghost use lib.ListN.{length};
+ghost use lib.ListN.{length, set};
 ghost use Rattle.text.specs.Utf8.{wellFormed};
 ghost use Rattle.epe.specs.Questions.{firstNo};
 ghost use Rattle.epe.specs.File.{marked, text};
 ghost use Rattle.epe.specs.Opening.{fileQuestions, fixedQuestions, repeatedQuestions, opening, openingOf};
-ghost use Rattle.epe.specs.Contents.{dateQuestions, statedQuestions, contents, orders, judgedOf, ordersRead};
+ghost use Rattle.epe.specs.Contents.{dateQuestions, statedQuestions};
 ghost use Rattle.epe.specs.Cut.{CutOf};
-ghost use Rattle.epe.specs.Kept.{keptFrom};
+ghost use Rattle.epe.specs.Kept.{Keepable, keptCode};
+ghost use Rattle.epe.specs.Steps.{statedBeside, statedOf, recordsOf};
 ghost use Rattle.epe.specs.Walk.{linesFrom, body};
-ghost use Rattle.epe.specs.Tally.{added, Small, StatedOf, Tallied, tallyJudged};
+ghost use Rattle.epe.specs.Tally.{added, Small, Tallied, tallyJudged};
+use crate::header::judge_count_and_sum;
 use crate::header::judge_dates;
 use crate::header::judge_fixed;
 use crate::header::judge_repeated;
-use crate::header::judge_stated;
 use crate::header::stated_count;
 use crate::header::stated_sum;
-use crate::kept::keep;
+use crate::kept::FAULTS;
 use crate::line::BAR;
 use crate::name::Name;
 use crate::name::judge_name;
@@ -62,11 +63,17 @@ pub struct Tally {
     pub faulty: u64,
 }
 
-// What the header states of the records, and what its questions come to.
-struct Stated {
-    verdict: Verdict,
-    count: u64,
-    sum: u64,
+// What the header states of the records, and what the questions before them come to.
+pub struct Stated {
+    pub verdict: Verdict,
+    pub count: u64,
+    pub sum: u64,
+}
+
+// What the records come to beside what the header states, and their orders, kept for one who enters them.
+pub struct Records {
+    pub judged: Judged,
+    pub kept: [u64; 2_048],
 }
 
 // Is the byte mark there?
@@ -135,12 +142,12 @@ fn judge_statement(line: &[u8], table: &[usize], count: usize, today: Date) -> V
     if !is_passed(dates) {
         return dates;
     }
-    judge_stated(line, table, count)
+    judge_count_and_sum(line, table, count)
 }
 
 // What the header's questions 102 to 131 come to, and what it states.
 fn read_stated(line: &[u8], today: Date) -> Stated
-    ensures { λ r. ⌜ StatedOf today (now (line .entry)) r ⌝ }
+    ensures { λ r. ⌜ r ≡ statedBeside (dateQuestions today (now (line .entry)) ++ statedQuestions (now (line .entry))) (now (line .entry)) ⌝ }
 {
     let mut table = [0usize; 32];
     let count = text::fields::cut(line, BAR, &mut table);
@@ -178,6 +185,17 @@ fn with_order(tally: Tally, order: Order) -> Tally
         sum: tally.sum + grosze,
         faulty: tally.faulty + faulty_mark(order.fault),
     }
+}
+
+// Keeps an order in entry j, where the table has that entry.
+fn keep(kept: &mut [u64], j: u64, order: Order)
+    requires { ⌜ Keepable order ⌝ }
+    ensures { λ _. ⌜ now (kept .exit) ≡ set (now (kept .entry)) j (keptCode order) ⌝ }
+{
+    if kept.len() as u64 <= j {
+        return;
+    }
+    kept[j as usize] = order.amount.0 * FAULTS + order.fault;
 }
 
 // The tally of the record lines from a place on, up to the first that is not shaped; their orders are kept as they are read.
@@ -259,23 +277,37 @@ pub fn open(name: &[u8], file: &[u8]) -> Opening
     }
 }
 
-// What the contents of a file come to. The table keeps the orders that are read, from its first entry on: of a file that passes, all.
-pub fn judge_contents(profile: Profile, file: &[u8], kept: &mut [u64]) -> Judged
-    ensures { λ r. ⌜ r ≡ judgedOf (contents profile (now (file .entry))) (orders (now (file .entry))) ⌝ }
-    ensures { λ _. ⌜ now (kept .exit) ≡ keptFrom (now (kept .entry)) 0 (ordersRead profile (now (file .entry))) ⌝ }
+// What a profile and the header come to, the questions 905 and 102 to 131, and what the header states of the records.
+pub fn judge_stated(profile: Profile, file: &[u8]) -> Stated
+    ensures { λ r. ⌜ r ≡ statedOf profile (now (file .entry)) ⌝ }
 {
-    if !profile_fits(profile) {
-        return Judged::Refused(refusals::PROFILE);
-    }
-    let today = profile.today;
-    let fields = profile.fields;
     let s = body_of(file);
-    let end = line_end(s, 0);
-    let stated = read_stated(slice(s, 0, end), today);
-    let verdict = stated.verdict;
-    if let Verdict::Refused(n) = verdict {
-        return Judged::Refused(n);
+    let stated = read_stated(slice(s, 0, line_end(s, 0)), profile.today);
+    if !profile_fits(profile) {
+        return Stated {
+            verdict: Verdict::Refused(refusals::PROFILE),
+            count: stated.count,
+            sum: stated.sum,
+        };
     }
-    let tally = tally_records(s, after_line(s, end), fields, kept);
-    judge_tally(tally, stated.count, stated.sum)
+    stated
+}
+
+// What the records of so many fields come to beside the number of orders and the sum stated, the questions 901 to 132, and the orders that are read.
+pub fn judge_records(fields: u64, count: u64, sum: u64, file: &[u8]) -> Records
+    ensures { λ r. ⌜ r ≡ recordsOf fields count sum (now (file .entry)) ⌝ }
+{
+    let mut kept = [0u64; 2_048];
+    if 32 < fields {
+        return Records {
+            judged: Judged::Refused(refusals::RECORD_SHAPE),
+            kept,
+        };
+    }
+    let s = body_of(file);
+    let tally = tally_records(s, after_line(s, line_end(s, 0)), fields, &mut kept);
+    Records {
+        judged: judge_tally(tally, count, sum),
+        kept,
+    }
 }

@@ -256,7 +256,7 @@ fn states_money(line: &[u8], table: &[usize], count: usize) -> bool
 }
 
 // The questions 126 to 131.
-pub fn judge_stated(line: &[u8], table: &[usize], count: usize) -> Verdict
+pub fn judge_count_and_sum(line: &[u8], table: &[usize], count: usize) -> Verdict
     requires { ⌜ CutOf (now line) (now table) count ⌝ }
     ensures { λ r. ⌜ r ≡ firstNo (statedQuestions (now (line .entry))) ⌝ }
 {

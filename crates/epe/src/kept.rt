@@ -1,33 +1,44 @@
-// Orders kept in a table that a caller lends, one to an entry, so that an accepted file is not read again for them.
+// Orders kept in a table of numbers, one to an entry, so that an accepted file is not read again for them.
 ghost use mathlib.Core.Path.{_≡_};
-ghost use Prim.Native.Nat.{_<_};
-ghost use lib.ListN.{length, set};
-ghost use Rattle.epe.specs.Kept.{Keepable, keptCode, orderIn};
+ghost use mathlib.Core.Bool.{cond};
+ghost use Rattle.money.specs.Money.{amount, isOrderAmount};
+ghost use Rattle.epe.specs.Kept.{orderFrom, orderIn};
 use crate::record::Order;
 use money::Amount;
 
 // What an amount is multiplied by, so that its order's fault, at most 10, fits below it.
-const FAULTS: u64 = 16;
+pub const FAULTS: u64 = 16;
 
-// Keeps an order in entry j, where the table has that entry.
-pub fn keep(kept: &mut [u64], j: u64, order: Order)
-    requires { ⌜ Keepable order ⌝ }
-    ensures { λ _. ⌜ now (kept .exit) ≡ set (now (kept .entry)) j (keptCode order) ⌝ }
+// Grosze as an order's amount; what is none is 0.
+fn amount_from(grosze: u64) -> Amount
+    ensures { λ r. ⌜ r ≡ amount (cond (isOrderAmount grosze) grosze 0) ⌝ }
 {
-    if kept.len() as u64 <= j {
-        return;
+    if !Amount::is_sum(grosze) {
+        return Amount::order(0);
     }
-    kept[j as usize] = order.amount.0 * FAULTS + order.fault;
+    let read = Amount::sum(grosze);
+    if !read.is_order() {
+        return Amount::order(0);
+    }
+    read
 }
 
-// The order that entry j keeps.
-pub fn order_in(kept: &[u64], j: usize) -> Order
-    requires { ⌜ j < length (now kept) ⌝ }
-    ensures { λ r. ⌜ r ≡ orderIn (now (kept .entry)) j ⌝ }
+// The order that a number says.
+fn order_from(code: u64) -> Order
+    ensures { λ r. ⌜ r ≡ orderFrom code ⌝ }
 {
-    let code = kept[j];
     Order {
-        amount: Amount(code / FAULTS),
+        amount: amount_from(code / FAULTS),
         fault: code % FAULTS,
     }
+}
+
+// The order that entry j keeps; past the end, as of an entry of 0.
+pub fn order_in(kept: &[u64], j: usize) -> Order
+    ensures { λ r. ⌜ r ≡ orderIn (now (kept .entry)) j ⌝ }
+{
+    if kept.len() <= j {
+        return order_from(0);
+    }
+    order_from(kept[j])
 }

@@ -17,15 +17,15 @@ returns c =
     let asked = c .before .before .judge-dates in
     join-no _ _ (asked .result) (asked .ensures) (told-no _ _ (c .before .is-passed .ensures) (c .if1 .taken))
 
-judge-stated-requires : tie.Need-judge-stated-requires
-judge-stated-requires c κs = search needs
+judge-count-and-sum-requires : tie.Need-judge-count-and-sum-requires
+judge-count-and-sum-requires c κs = search needs
 
 returns-2 : tie.Need-returns-2
 returns-2 c =
     let asked = c .before .before .before .judge-dates in
-    c .judge-stated .ensures ∙ join-yes _ _ (asked .result) (asked .ensures) (told-yes _ _ (c .before .before .is-passed .ensures) (c .before .if1 .left))
+    c .judge-count-and-sum .ensures ∙ join-yes _ _ (asked .result) (asked .ensures) (told-yes _ _ (c .before .before .is-passed .ensures) (c .before .if1 .left))
 
 pub judge-statement-spec : {M : Type 1} → statement M
 judge-statement-spec =
     tie.close
-    (tie.spec judge-dates-requires is-passed-requires returns judge-stated-requires returns-2)
+    (tie.spec judge-dates-requires is-passed-requires returns judge-count-and-sum-requires returns-2)

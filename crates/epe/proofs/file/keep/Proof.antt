@@ -1,10 +1,10 @@
--- `epe::kept::keep` stores an order's number where there is an entry for it.
+-- `epe::file::keep` stores an order's number where there is an entry for it.
 use mathlib.Core.Path.{sym}
 use borrow.Author.Needs.{needs}
 use lib.Seq.{set-out}
 use Rattle.epe.specs.Kept.{keptCode}
-use Rattle.epe.proofs.kept.keep.Statement.{statement}
-use Rattle.epe.proofs.kept.keep.Tie as tie
+use Rattle.epe.proofs.file.keep.Statement.{statement}
+use Rattle.epe.proofs.file.keep.Tie as tie
 
 returns : tie.Need-returns
 returns c = let start = c .before .args in sym (set-out (start .kept .now) (start .j) (keptCode (start .order)) (c .if1 .taken))

@@ -1,9 +1,9 @@
--- `epe::header::judge_stated` asks the questions of `statedQuestions` in their order.
+-- `epe::header::judge_count_and_sum` asks the questions of `statedQuestions` in their order.
 use borrow.Author.Needs.{needs}
 use Rattle.epe.specs.Contents.{statedQuestions}
 use Rattle.epe.proofs.Asking.{asking}
-use Rattle.epe.proofs.header.judge_stated.Statement.{statement}
-use Rattle.epe.proofs.header.judge_stated.Tie as tie
+use Rattle.epe.proofs.header.judge_count_and_sum.Statement.{statement}
+use Rattle.epe.proofs.header.judge_count_and_sum.Tie as tie
 
 states-count-requires : tie.Need-states-count-requires
 states-count-requires c κs = search needs
@@ -37,8 +37,8 @@ returns-5 : tie.Need-returns-5
 unfolding statedQuestions
 returns-5 c = search asking depth 24
 
-pub judge-stated-spec : {M : Type 1} → statement M
-judge-stated-spec =
+pub judge-count-and-sum-spec : {M : Type 1} → statement M
+judge-count-and-sum-spec =
     tie.close
     (tie.spec
     states-count-requires

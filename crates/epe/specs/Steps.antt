@@ -1,0 +1,56 @@
+-- The contents of an order file judged in two steps, as an intake takes them: what the header states, then the records, whose orders are kept.
+use mathlib.Core.Path.{_≡_}
+use mathlib.Core.Bool.{cond}
+use mathlib.Core.List.{List, _∷_, _++_}
+use Prim.Native.Nat.{ℕ}
+use lib.Dec.{leb}
+use lib.ListN.{replicate}
+use Rattle.epe.specs.Questions.{Question, _elseNo_, firstNo}
+use Rattle.epe.specs.Profile.{profileFits}
+use Rattle.epe.specs.File.{header, records}
+use Rattle.epe.specs.Contents.{statedCount, statedSum, dateQuestions, statedQuestions, recordQuestions, contents, orders, ordersRead, judgedOf}
+use Rattle.epe.specs.Kept.{keptFrom}
+use Rattle.epe.specs.declared.file.Judged.the-variants.{Refused as NotAccepted}
+use Rattle.epe.specs.declared.file.Records.{Records}
+use Rattle.epe.specs.declared.file.Stated.{Stated}
+use Rattle.epe.specs.declared.profile.Profile.{Profile}
+use Rattle.epe.specs.declared.verdict.Verdict.the-variants.{Passed, Refused}
+
+-- What some questions come to, beside the number of orders and the sum that a header states.
+unfoldable pub statedBeside : List Question → List ℕ → Stated
+statedBeside questions line = record { verdict = firstNo questions; count = statedCount line; sum = statedSum line }
+
+-- The first step: 905, then 102 to 131.
+unfoldable pub headerQuestions : Profile → List ℕ → List Question
+headerQuestions profile file =
+    (profileFits profile elseNo 905) ∷ (dateQuestions (profile .today) (header file) ++ statedQuestions (header file))
+
+unfoldable pub statedOf : Profile → List ℕ → Stated
+statedOf profile file = statedBeside (headerQuestions profile file) (header file)
+
+-- A table in which no order is kept yet, with an entry for each of a book's 2,048 rows.
+abbrev pub noneKept : List ℕ
+noneKept = replicate 2_048 0
+
+-- The second step: 901, 902, 129, 132 of the records of R fields, and the orders that are read, kept. R is at most 32, and no record is in more.
+unfoldable pub recordsOf : ℕ → ℕ → ℕ → List ℕ → Records
+recordsOf r count sum file =
+    cond (leb r 32)
+    (record {
+      judged = judgedOf (firstNo (recordQuestions r count sum (records file))) (orders file);
+      kept = keptFrom noneKept 0 (ordersRead r file);
+    })
+    (record { judged = NotAccepted 901; kept = noneKept })
+
+-- The second step as it follows the first: of the profile's number of fields, and of what the header states.
+abbrev pub recordsBehind : Profile → List ℕ → Records
+recordsBehind profile file = recordsOf (profile .fields) (statedOf profile file .count) (statedOf profile file .sum) file
+
+-- The two steps are the contents, whatever the profile: where the first refuses, so are they refused; where it passes, they come to what the second
+-- comes to; and of a file that is accepted all orders are kept.
+pub record TwoStepsAreContents : Type 0 where
+  pub first-refuses : (profile : Profile) (file : List ℕ) (n : ℕ) → statedOf profile file .verdict ≡ Refused n → contents profile file ≡ Refused n
+  pub second-decides : (profile : Profile) (file : List ℕ) → statedOf profile file .verdict ≡ Passed
+      → recordsBehind profile file .judged ≡ judgedOf (contents profile file) (orders file)
+  pub accepted-kept : (profile : Profile) (file : List ℕ) → contents profile file ≡ Passed
+      → recordsBehind profile file .kept ≡ keptFrom noneKept 0 (orders file)
