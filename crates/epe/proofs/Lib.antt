@@ -5,6 +5,7 @@ pub mod ProfileLaws
 pub mod NameLaws
 pub mod Lines
 pub mod RecordLaws
+pub mod FieldLengths
 pub mod Walking
 pub mod Judging
 pub mod AcceptedAsStated

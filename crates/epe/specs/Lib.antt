@@ -5,6 +5,7 @@ pub mod Name
 pub mod File
 pub mod Cut
 pub mod Opening
+pub mod Lengths
 pub mod Faults
 pub mod Contents
 pub mod Accepted

@@ -11,5 +11,6 @@ pub mod Utf8Places
 pub mod Utf8Written
 pub mod Utf8Read
 pub mod Utf8Counting
+pub mod Utf8Parts
 pub mod Examples
 pub mod Utf8Examples

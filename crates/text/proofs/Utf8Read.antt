@@ -118,7 +118,7 @@ module _ (a : ℕ) (s : List ℕ) where
       (λ e n. one-ascii a s e) (λ e n. one-row2 e) (λ e n. one-row3 e) (λ e n. one-row4 e) (λ p n. absurd (n refl))
 
 -- a text that is well formed from a character on has one there, and is well formed behind it
-well-formed-here : (t u : Bool) → cond t false u ≡ true → (t ≡ false) × (u ≡ true)
+pub well-formed-here : (t u : Bool) → cond t false u ≡ true → (t ≡ false) × (u ≡ true)
 well-formed-here true u h = (sym h, cc)
 well-formed-here false u h = (refl, h)
 

@@ -1,5 +1,5 @@
 -- `epe::kept::amount_from` keeps an order's amount; what is no sum is none either.
-use mathlib.Core.Path.{_∙_, ap}
+use mathlib.Core.Path.{_∙_}
 use borrow.Author.Tests.{leb-true}
 use Rattle.text.proofs.Branches.{told-no, told-yes}
 use Rattle.epe.proofs.Keeping.{held-amount, no-amount, no-sum-no-amount}
