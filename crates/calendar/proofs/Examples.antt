@@ -6,7 +6,7 @@ use mathlib.Core.List.{List, [], _∷_, map}
 use Prim.Native.Nat.{ℕ}
 use Rattle.text.specs.Bytes.{digit}
 use Rattle.text.specs.Number.{numberAfter, number}
-use Rattle.calendar.specs.Calendar.{leap, monthLength, real, daysOfMonths, daysOfYears, dayNumber, dayAfter, daysApart, inWindow}
+use Rattle.calendar.specs.Calendar.{leap, monthLength, real, daysOfMonths, daysOfYears, dayNumber, dayAfter, inWindow}
 use Rattle.calendar.specs.Reading.{dateOf, dateOfNumber, dateOfDigits}
 use Rattle.calendar.specs.Time.{clockTime, timeOfNumber, timeOfDay}
 use Rattle.calendar.specs.declared.date.DateRead.the-variants.{Real, NotReal}
@@ -42,13 +42,9 @@ days-after : map dayAfter (20200228 ∷ 20200229 ∷ 20201231 ∷ []) ≡ 202002
 unfolding dayAfter leap monthLength
 days-after = refl
 
-numbers : map dayNumber (20000101 ∷ 20000301 ∷ 20010101 ∷ 20991231 ∷ []) ≡ 0 ∷ 60 ∷ 366 ∷ 36524 ∷ []
+numbers : map dayNumber (20000101 ∷ 20000228 ∷ 20000301 ∷ 20010101 ∷ 20991231 ∷ []) ≡ 0 ∷ 58 ∷ 60 ∷ 366 ∷ 36524 ∷ []
 unfolding dayNumber daysOfYears daysOfMonths monthLength leap
 numbers = refl
-
-around-february : daysApart 20200301 20200228 ≡ 2
-unfolding daysApart dayNumber daysOfYears daysOfMonths monthLength leap
-around-february = refl
 
 -- Document 01, ZS1, line 11: created 60 days before to 10 days after today, 7 October 2020.
 created : map (inWindow 60 10 20201007) (20200807 ∷ 20200808 ∷ 20201017 ∷ 20201018 ∷ []) ≡ false ∷ true ∷ true ∷ false ∷ []

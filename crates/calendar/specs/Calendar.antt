@@ -67,10 +67,6 @@ DayAfterIsReal = (date : ℕ) → real date ≡ true → (date ≡ 20991231 → 
 abbrev pub LaterIsLarger : Type 0
 LaterIsLarger = (a b : ℕ) → real a ≡ true → real b ≡ true → a < b → dayNumber a < dayNumber b
 
--- The difference of two dates in calendar days, whichever is the later.
-unfoldable pub daysApart : ℕ → ℕ → ℕ
-daysApart a b = (dayNumber a - dayNumber b) + (dayNumber b - dayNumber a)
-
 -- A real date from `before` days before to `after` days after a real today, bounds included.
 unfoldable pub inWindow : ℕ → ℕ → ℕ → ℕ → Bool
 inWindow before after today date =

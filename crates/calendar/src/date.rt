@@ -1,9 +1,9 @@
 // Dates as numbers: whether one is real, its number of days since 1 January 2000, and windows of days.
 ghost use mathlib.Core.Path.{_≡_};
-ghost use mathlib.Core.Bool.{true, cond, _&&_, _||_};
-ghost use Prim.Native.Nat.{_+_, _-_, _<_};
+ghost use mathlib.Core.Bool.{true, _&&_, _||_};
+ghost use Prim.Native.Nat.{_+_, _<_};
 ghost use lib.Dec.{leb, eqb};
-ghost use Rattle.calendar.specs.Calendar.{leap, monthLength, real, daysOfMonths, daysOfYears, dayNumber, daysApart, inWindow};
+ghost use Rattle.calendar.specs.Calendar.{leap, monthLength, real, daysOfMonths, daysOfYears, dayNumber, inWindow};
 ghost use Rattle.calendar.specs.Reading.{dateOf, dateOfDigits, dateInWindow};
 use text::number::Number;
 use text::number::is_between;
@@ -119,36 +119,6 @@ fn number_of_real(date: Date) -> u64
     let day = date.0 % 100;
     let months = (month - 1) as usize;
     days_of_years(year - 2000) + days_of_months(is_leap(year), months) + (day - 1)
-}
-
-// The days from 1 January 2000 to a real date, 0 for any other.
-pub fn day_number(date: Date) -> u64
-    ensures { λ r. ⌜ r ≡ cond (real (date .0)) (dayNumber (date .0)) 0 ⌝ }
-{
-    if is_real(date) {
-        return number_of_real(date);
-    }
-    0
-}
-
-// The larger number less the smaller.
-fn difference(a: u64, b: u64) -> u64
-    ensures { λ r. ⌜ r ≡ (a - b) + (b - a) ⌝ }
-{
-    if a < b {
-        return b - a;
-    }
-    a - b
-}
-
-// The calendar days between two real dates, 0 where one is not real.
-pub fn days_apart(a: Date, b: Date) -> u64
-    ensures { λ r. ⌜ r ≡ cond (real (a .0) && real (b .0)) (daysApart (a .0) (b .0)) 0 ⌝ }
-{
-    if are_real(a, b) {
-        return difference(number_of_real(a), number_of_real(b));
-    }
-    0
 }
 
 // Is the number from `before` below to `after` above today's?
