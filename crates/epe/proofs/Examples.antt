@@ -25,7 +25,6 @@ use Rattle.epe.specs.Opening.{fileQuestions, fixedQuestions, repeatedQue
 use Rattle.epe.specs.Faults.{sized, empty, placed, housed, postcode, extra, spaced, unspaced, faultQuestions, faultIn, faultOf}
 use Rattle.epe.specs.Contents.{dateQuestions, statedQuestions, shaped, allShaped, allPriced, total, recordQuestions, contentsQuestions, contents}
 use Rattle.epe.specs.Contents.{orderOf, orders, faultyCount, judgedOf}
-use Rattle.epe.specs.declared.file.Judged.{Judged}
 use Rattle.epe.specs.declared.file.Judged.the-variants.{Accepted}
 use Rattle.epe.specs.declared.profile.Profile.{Profile}
 use Rattle.epe.specs.declared.record.Order.{Order}
@@ -84,14 +83,23 @@ its-orders : orders zs1 ≡ order 10_000 0 ∷ order 5_000 1 ∷ order 2_550 0 �
 unfolding holdsOrders
 its-orders = refl
 
--- 001, 034 without the mark, 003 before a bad header, 004 with bare LF ends, 014 for another name.
-openings-refused : map (opening name) ([] ∷ bytes "1|ZUS" ∷ []) ++ (opening (bytes "EPEZZS1-201007-A") zs1
-    ∷ opening name (0xEF ∷ 0xBB ∷ 0xBF ∷ (bytes "1|ZUS" ++ (0x0A ∷ [])))
+-- A header by itself, with bytes behind it.
+abbrev headed : List ℕ → List ℕ
+headed behind = 0xEF ∷ 0xBB ∷ 0xBF ∷ (bytes "1|ZUS|EPE|1.0|ZS1|ABC123|20201007120000|20201007|A|0|3|175.50" ++ behind)
+
+-- 001, 034 without the mark, 003 before a bad header, 014 for another name.
+openings-refused : map (opening name) ([] ∷ bytes "1|ZUS" ∷ []) ++ (opening (bytes "EPEZZS1-201007-A") (file ("2|ZUS" ∷ []))
     ∷ opening (bytes "EPEZZS2-201007-A-0") zs1
     ∷ [])
-    ≡ Refused 1 ∷ Refused 34 ∷ Refused 3 ∷ Refused 4 ∷ Refused 14 ∷ []
+    ≡ Refused 1 ∷ Refused 34 ∷ Refused 3 ∷ Refused 14 ∷ []
 unfolding opens
 openings-refused = refl
+
+-- A header of 12 fields passes without an end and with CR LF, and is 004 with a stray LF or CR, or with one more bar.
+headers : map (λ behind. opening name (headed behind)) ([] ∷ (0x0D ∷ 0x0A ∷ []) ∷ (0x0A ∷ []) ∷ (0x0D ∷ []) ∷ bytes "|" ∷ [])
+    ≡ Passed ∷ Passed ∷ Refused 4 ∷ Refused 4 ∷ Refused 4 ∷ []
+unfolding opens
+headers = refl
 
 -- The same shipment with other fields 7, 8, 11 and 12.
 abbrev judgedWith : String → List String → Verdict

@@ -62,7 +62,9 @@ fn is_header(line: &[u8], table: &[usize], count: usize) -> bool
     requires { ⌜ CutOf (now line) (now table) count ⌝ }
     ensures { λ r. ⌜ r ≡ (eqb (length (fields 0x7C (now (line .entry)))) 12 && not (stray (now (line .entry)))) ⌝ }
 {
-    has_fields(line, table, count, 12) && !text::lines::has_stray(line)
+    let parted = has_fields(line, table, count, 12);
+    let stray = text::lines::has_stray(line);
+    parted & !stray
 }
 
 // The questions 004 to 099.
