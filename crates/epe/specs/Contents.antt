@@ -59,7 +59,7 @@ statedQuestions line =
     ∷ (ltb 0 (statedSum line) elseNo 131)
     ∷ []
 
--- One record line, the n-th: "R fields, no stray CR or LF, first field `2`, second 1 to 6 digits whose value counts 1, 2, 3 .."
+-- One record line, the n-th: ".. R fields, no stray CR or LF, first field `2`, second 1 to 6 digits whose value counts 1, 2, 3 ..?"
 unfoldable pub shaped : ℕ → ℕ → List ℕ → Bool
 shaped r n line =
     (eqb (length (fields 0x7C line)) r && not (stray line))

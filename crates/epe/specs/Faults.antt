@@ -1,4 +1,4 @@
--- "An order is faulty by its first fault."
+-- "An order is faulty by its first fault: .."
 use mathlib.Core.Bool.{Bool, true, not, _&&_, _||_}
 use mathlib.Core.List.{List, [], _∷_}
 use Prim.Native.Nat.{ℕ, zero, suc, _+_, _-_}
@@ -13,7 +13,7 @@ use Rattle.epe.specs.File.{field}
 use Rattle.epe.specs.declared.verdict.Verdict.{Verdict}
 use Rattle.epe.specs.declared.verdict.Verdict.the-variants.{Passed, Refused}
 
--- "Lengths count code points": from low to high of them.
+-- "Lengths count code points, not bytes." From low to high of them.
 unfoldable pub sized : ℕ → ℕ → List ℕ → Bool
 sized low high s = between low high (codePoints s)
 

@@ -1,5 +1,6 @@
 -- "After the bytes EF BB BF (hexadecimal) lines are parted by CR LF; one CR LF after the last line is allowed and adds no line.
--- Fields are parted by `|`, none at the line's end. Lengths count code points, not bytes."
+-- Another CR or LF spoils its line (004 in the header, 901 elsewhere). Fields are parted by `|`, none at the line's end.
+-- Lengths count code points, not bytes."
 use mathlib.Core.Bool.{Bool}
 use mathlib.Core.List.{List, [], _∷_}
 use Prim.Native.Nat.{ℕ, _-_}

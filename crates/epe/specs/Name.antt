@@ -74,7 +74,7 @@ titleName title = take (length title - 2) title
 abbrev pub titleEnding : List ℕ → List ℕ
 titleEnding title = drop (length title - 2) title
 
--- "Title is a shipment name in the form above, then `-K` or `-O`? 11"
+-- "Transfer (title, amount): title is a shipment name in the form above, then `-K` or `-O`? 11. .."
 unfoldable pub titleQuestions : List ℕ → List Question
 titleQuestions title =
     (isPassed (firstNo (nameQuestions (titleName title)))

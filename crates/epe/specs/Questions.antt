@@ -1,4 +1,4 @@
--- "Questions in order; the first "no" gives its number."
+-- "Questions in order; the first "no" gives its number and the book is unchanged."
 use mathlib.Core.Path.{_≡_}
 use mathlib.Core.Bool.{Bool, true, false, cond}
 use mathlib.Core.List.{List, [], _∷_, _++_}

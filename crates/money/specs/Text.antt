@@ -1,4 +1,5 @@
--- "Its text is 1 to 7 digits, a point, 2 digits; a sum's has 1 to 11 digits before the point. Either text may read zero."
+-- "Its text is 1 to 7 digits, a point, 2 digits; a sum's has 1 to 11 digits before the point and reads at most 9,999,999,999,999.
+-- Either text may read zero."
 use mathlib.Core.Bool.{cond}
 use mathlib.Core.List.{List}
 use Prim.Native.Nat.{ℕ, _+_, _*_, _-_}

@@ -11,7 +11,7 @@ unfoldable pub onto : ℕ → List (List ℕ) → List (List ℕ)
 onto b [] = (b ∷ []) ∷ []
 onto b (f ∷ fs) = (b ∷ f) ∷ fs
 
--- "Fields are parted by `|`": a plain split, in which n separators make n + 1 fields.
+-- "Fields are parted by `|`, none at the line's end." A plain split, in which n separators make n + 1 fields.
 unfoldable pub fields : ℕ → List ℕ → List (List ℕ)
 fields separator [] = [] ∷ []
 fields separator (b ∷ s) = cond (eqb b separator) ([] ∷ fields separator s) (onto b (fields separator s))

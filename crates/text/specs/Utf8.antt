@@ -40,7 +40,7 @@ point3 a b c = (a % 16) * 4096 + (b % 64) * 64 + c % 64
 unfoldable pub point4 : ℕ → ℕ → ℕ → ℕ → ℕ
 point4 a b c d = (a % 8) * 262144 + (b % 64) * 4096 + (c % 64) * 64 + d % 64
 
--- "The definition of UTF-8 prohibits encoding character numbers between U+D800 and U+DFFF", the surrogates.
+-- "The definition of UTF-8 prohibits encoding character numbers between U+D800 and U+DFFF ..", the surrogates.
 unfoldable pub surrogate : ℕ → Bool
 surrogate p = leb 0xD800 p && leb p 0xDFFF
 

@@ -7,7 +7,7 @@ use Prim.Native.Nat.{ℕ, _+_, _/_, _%_}
 use lib.Dec.{leb}
 use Rattle.text.specs.Utf8.{surrogate, wellFormed, decoded}
 
--- "Characters from the U+0000..U+10FFFF range", without the surrogates.
+-- ".. characters from the U+0000..U+10FFFF range ..", without the surrogates.
 unfoldable pub scalar : ℕ → Bool
 scalar p = leb p 0x10FFFF && not (surrogate p)
 
@@ -15,8 +15,8 @@ unfoldable pub allScalar : List ℕ → Bool
 allScalar [] = true
 allScalar (p ∷ ps) = scalar p && allScalar ps
 
--- "Determine the number of octets required from the character number and the first column of the table", "prepare the high-order bits of the
--- octets as per the second column", "fill in the bits marked x from the bits of the character number".
+-- "Determine the number of octets required from the character number and the first column of the table above. .. Prepare the high-order bits of
+-- the octets as per the second column of the table. Fill in the bits marked x from the bits of the character number, expressed in binary. .."
 unfoldable pub encoded : ℕ → List ℕ
 encoded p =
     cond (leb p 0x7F) (p ∷ [])
