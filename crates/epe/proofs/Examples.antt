@@ -24,8 +24,10 @@ use Rattle.epe.specs.File.{marked}
 use Rattle.epe.specs.Opening.{fileQuestions, fixedQuestions, repeatedQuestions, openingQuestions, opening}
 use Rattle.epe.specs.Faults.{sized, empty, placed, housed, postcode, extra, spaced, unspaced, faultQuestions, faultIn, faultOf}
 use Rattle.epe.specs.Contents.{dateQuestions, statedQuestions, shaped, allShaped, allPriced, total, recordQuestions, contentsQuestions, contents}
-use Rattle.epe.specs.Contents.{orderOf, orders, faultyCount, judgedOf}
-use Rattle.epe.specs.declared.file.Judged.the-variants.{Accepted}
+use Rattle.epe.specs.Contents.{orderOf, orders, faultyCount, judgedOf, linesRead, ordersRead}
+use Rattle.epe.specs.Kept.{orderFrom, ordersIn, keptFrom}
+use Rattle.epe.specs.Steps.{statedBeside, headerQuestions, statedOf, recordsOf}
+use Rattle.epe.specs.declared.file.Judged.the-variants.{Accepted, Refused as NotAccepted}
 use Rattle.epe.specs.declared.profile.Profile.{Profile}
 use Rattle.epe.specs.declared.record.Order.{Order}
 use Rattle.epe.specs.declared.verdict.Verdict.{Verdict}
@@ -82,6 +84,19 @@ accepted = refl
 its-orders : orders zs1 ≡ order 10_000 0 ∷ order 5_000 1 ∷ order 2_550 0 ∷ []
 unfolding holdsOrders
 its-orders = refl
+
+-- The same in two steps: what the header states, then the records, whose orders are kept. No record is in 33 fields.
+stated : statedOf profile zs1 ≡ record { verdict = Passed; count = 3; sum = 17_550 }
+unfolding holdsOrders statedOf statedBeside headerQuestions
+stated = refl
+
+judged-behind : map (λ r. recordsOf r 3 17_550 zs1 .judged) (19 ∷ 20 ∷ 33 ∷ []) ≡ Accepted 3 1 ∷ NotAccepted 901 ∷ NotAccepted 901 ∷ []
+unfolding holdsOrders recordsOf
+judged-behind = refl
+
+kept-behind : ordersIn (recordsOf 19 3 17_550 zs1 .kept) 0 3 ≡ orders zs1
+unfolding holdsOrders recordsOf linesRead ordersRead keptFrom ordersIn orderFrom
+kept-behind = refl
 
 -- A header by itself, with bytes behind it.
 abbrev headed : List ℕ → List ℕ

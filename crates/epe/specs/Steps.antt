@@ -32,7 +32,8 @@ statedOf profile file = statedBeside (headerQuestions profile file) (header file
 abbrev pub noneKept : List ℕ
 noneKept = replicate 2_048 0
 
--- The second step: 901, 902, 129, 132 of the records of R fields, and the orders that are read, kept. R is at most 32, and no record is in more.
+-- The second step: 901, 902, 129, 132 of the records of R fields, and the orders that are read, kept.
+-- No profile asks for more than 32 fields; for more the answer is that no record is in shape.
 unfoldable pub recordsOf : ℕ → ℕ → ℕ → List ℕ → Records
 recordsOf r count sum file =
     cond (leb r 32)
@@ -47,7 +48,7 @@ abbrev pub recordsBehind : Profile → List ℕ → Records
 recordsBehind profile file = recordsOf (profile .fields) (statedOf profile file .count) (statedOf profile file .sum) file
 
 -- The two steps are the contents, whatever the profile: where the first refuses, so are they refused; where it passes, they come to what the second
--- comes to; and of a file that is accepted all orders are kept.
+-- comes to; and of a file that is accepted the orders are kept.
 pub record TwoStepsAreContents : Type 0 where
   pub first-refuses : (profile : Profile) (file : List ℕ) (n : ℕ) → statedOf profile file .verdict ≡ Refused n → contents profile file ≡ Refused n
   pub second-decides : (profile : Profile) (file : List ℕ) → statedOf profile file .verdict ≡ Passed
