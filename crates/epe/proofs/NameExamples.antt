@@ -15,7 +15,7 @@ use Rattle.money.specs.declared.Money.the-variants.{K, O}
 use Rattle.calendar.specs.Calendar.{real, leap, monthLength}
 use Rattle.epe.specs.Questions.{firstNo, isPassed}
 use Rattle.epe.specs.Ident.{identifier, identOf, sameIdent, identInForm}
-use Rattle.epe.specs.Profile.{feesOf, feesFit, profileFits}
+use Rattle.epe.specs.Profile.{asFees, feesFit, profileFits}
 use Rattle.epe.specs.Name.{nameQuestions, nameOf, titleQuestions, titleOf}
 use Rattle.epe.specs.declared.profile.Profile.{Profile}
 use Rattle.epe.specs.declared.verdict.Verdict.{Verdict}
@@ -111,10 +111,10 @@ title-name = refl
 
 -- Profiles by today, a fee and R: the last ones within the ranges, and each past one of them.
 abbrev profile : ℕ → ℕ → ℕ → Profile
-profile today fee r = record { today = record { 0 = today }; fees = feesOf (350 ∷ 0 ∷ 350 ∷ 350 ∷ fee ∷ []); fields = r }
+profile today fee r = record { today = record { 0 = today }; fees = asFees (350 ∷ 0 ∷ 350 ∷ 350 ∷ fee ∷ []); fields = r }
 
 isFitting : Profile → Bool
-unfolding profileFits feesFit feesOf real leap monthLength
+unfolding profileFits feesFit asFees real leap monthLength
 isFitting p = profileFits p
 
 profiles : map isFitting (profile 20201007 999999999 19 ∷ profile 20991231 0 32 ∷ []) ≡ true ∷ true ∷ []

@@ -10,7 +10,7 @@ use lib.ListN.{length, getD}
 use Rattle.text.proofs.Branches.{and-left, and-right}
 use Rattle.money.specs.Money.{fee, orderCap, isOrderFee, isSum}
 use Rattle.money.specs.declared.Fee.{Fee}
-use Rattle.epe.specs.Profile.{feesOf, feesFit}
+use Rattle.epe.specs.Profile.{asFees, feesFit}
 
 listed : {A : Type 0} (xs : List A) (none : A) → length xs ≡ 5
     → xs ≡ getD xs 0 none ∷ getD xs 1 none ∷ getD xs 2 none ∷ getD xs 3 none ∷ getD xs 4 none ∷ []
@@ -40,23 +40,23 @@ fees-judged fees h = ap feesFit (listed fees (fee 0) h) ∙ judged _ _ _ _ _
 
 -- plain numbers, as fees
 module _ (numbers : List ℕ) (five : length numbers ≡ 5) where
-  pub fees-listed : feesOf numbers
+  pub fees-listed : asFees numbers
       ≡ fee (getD numbers 0 0) ∷ fee (getD numbers 1 0) ∷ fee (getD numbers 2 0) ∷ fee (getD numbers 3 0) ∷ fee (getD numbers 4 0) ∷ []
-  unfolding feesOf
-  fees-listed = ap feesOf (listed numbers 0 five)
+  unfolding asFees
+  fees-listed = ap asFees (listed numbers 0 five)
 
-  pub numbers-judged : feesFit (feesOf numbers)
+  pub numbers-judged : feesFit (asFees numbers)
       ≡ (isOrderFee (getD numbers 0 0)
       && (isOrderFee (getD numbers 1 0)
       && (isOrderFee (getD numbers 2 0) && (isOrderFee (getD numbers 3 0) && isOrderFee (getD numbers 4 0)))))
   numbers-judged = ap feesFit fees-listed ∙ judged _ _ _ _ _
 
 -- each of fees that fit is within a fee's cap
-pub fee-within : (numbers : List ℕ) (i : ℕ) → feesFit (feesOf numbers) ≡ true → getD numbers i 0 ≤ orderCap
-unfolding feesFit feesOf
+pub fee-within : (numbers : List ℕ) (i : ℕ) → feesFit (asFees numbers) ≡ true → getD numbers i 0 ≤ orderCap
+unfolding feesFit asFees
 fee-within [] i h = omega arith
-fee-within (n ∷ numbers) zero h = leb-true n orderCap (and-left (isOrderFee n) (feesFit (feesOf numbers)) h)
-fee-within (n ∷ numbers) (suc i) h = fee-within numbers i (and-right (isOrderFee n) (feesFit (feesOf numbers)) h)
+fee-within (n ∷ numbers) zero h = leb-true n orderCap (and-left (isOrderFee n) (feesFit (asFees numbers)) h)
+fee-within (n ∷ numbers) (suc i) h = fee-within numbers i (and-right (isOrderFee n) (feesFit (asFees numbers)) h)
 
 -- what is no sum is no fee
 pub no-sum-no-fee : (n : ℕ) → isSum n ≡ false → false ≡ isOrderFee n

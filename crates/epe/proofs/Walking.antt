@@ -23,7 +23,7 @@ use Rattle.epe.specs.File.{text, header, records, field}
 use Rattle.epe.specs.Contents.{shaped, allShaped, amountIn, allPriced, total, orderOf, faultyCount, linesRead}
 use Rattle.epe.specs.Kept.{Keepable, keptCode, keptFrom}
 use Rattle.epe.specs.Walk.{linesFrom, lineEnd, nextLine, body}
-use Rattle.epe.specs.Tally.{RecordOf, added, Small, Tallied}
+use Rattle.epe.specs.Tally.{RecordOf, added, SmallTally, Tallied}
 use Rattle.epe.specs.declared.file.Tally.{Tally}
 use Rattle.epe.specs.declared.record.RecordRead.{RecordRead}
 use Rattle.epe.proofs.RecordLaws.{shape-of, fault-known}
@@ -186,7 +186,7 @@ going-end fields lines tally before kept going = record {
 
 -- a turn of the walk: the line at a place is read, its order kept, and the next place reached
 pub record Turn (fields : ℕ) (s : List ℕ) (from at : ℕ) (tally : Tally) (before kept : List ℕ) (read : RecordRead) (end : ℕ) : Type 0 where
-  pub small : Small tally (read .order)
+  pub small : SmallTally tally (read .order)
   pub keepable : Keepable (read .order)
   pub misshaped : read .shaped ≡ false
       → (allShaped fields 1 (linesFrom from s) ≡ false) × (kept ≡ keptFrom before 0 (map orderOf (linesRead fields 1 (linesFrom from s))))

@@ -16,8 +16,8 @@ feesFit [] = true
 feesFit (fee ∷ fees) = isOrderFee (fee .0) && feesFit fees
 
 -- Plain numbers as fees.
-unfoldable pub feesOf : List ℕ → List Fee
-feesOf numbers = map fee numbers
+unfoldable pub asFees : List ℕ → List Fee
+asFees numbers = map fee numbers
 
 -- "Profile within the ranges above? 905"
 unfoldable pub profileFits : Profile → Bool

@@ -41,7 +41,7 @@ pub record Tallied (fields : ℕ) (lines : List (List ℕ)) (tally : Tally) (bef
   pub kept : after ≡ keptFrom before 0 (map orderOf (linesRead fields 1 lines))
 
 -- What is added stays within 64 bits.
-pub record Small (tally : Tally) (order : Order) : Type 0 where
+pub record SmallTally (tally : Tally) (order : Order) : Type 0 where
   pub few : tally .count ≤ 999_999
   pub little : tally .sum ≤ tally .count * 2 ^ 30
   pub fewer : tally .faulty ≤ tally .count

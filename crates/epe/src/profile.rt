@@ -4,7 +4,7 @@ ghost use mathlib.Core.Bool.{true, _&&_};
 ghost use lib.Dec.{eqb};
 ghost use lib.ListN.{length};
 ghost use Rattle.money.specs.Money.{isOrderFee};
-ghost use Rattle.epe.specs.Profile.{feesOf, feesFit, profileFits};
+ghost use Rattle.epe.specs.Profile.{asFees, feesFit, profileFits};
 use calendar::date::Date;
 use calendar::date::is_real;
 use money::Fee;
@@ -30,7 +30,7 @@ fn is_fee(number: u64) -> bool
 
 // Are five numbers fees?
 pub fn are_fees(numbers: [u64; 5]) -> bool
-    ensures { λ r. ⌜ r ≡ feesFit (feesOf numbers) ⌝ }
+    ensures { λ r. ⌜ r ≡ feesFit (asFees numbers) ⌝ }
 {
     is_fee(numbers[0])
         & (is_fee(numbers[1]) & (is_fee(numbers[2]) & (is_fee(numbers[3]) & is_fee(numbers[4]))))
@@ -38,8 +38,8 @@ pub fn are_fees(numbers: [u64; 5]) -> bool
 
 // Five numbers as fees.
 pub fn fees_of(numbers: [u64; 5]) -> [Fee; 5]
-    requires { ⌜ feesFit (feesOf numbers) ≡ true ⌝ }
-    ensures { λ r. ⌜ r ≡ feesOf numbers ⌝ }
+    requires { ⌜ feesFit (asFees numbers) ≡ true ⌝ }
+    ensures { λ r. ⌜ r ≡ asFees numbers ⌝ }
 {
     [
         Fee::order(numbers[0]),

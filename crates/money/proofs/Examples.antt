@@ -8,13 +8,13 @@ use Prim.Native.String.{String}
 use Rattle.text.specs.Bytes.{digit}
 use Rattle.text.specs.Quoted.{bytes}
 use Rattle.text.specs.Number.{numberAfter, number}
-use Rattle.money.specs.Money.{fee, isOrderAmount, isOrderFee, isSum, isTotal, sumOf, transferOf}
+use Rattle.money.specs.Money.{fee, isOrderAmount, isOrderFee, isSum, isTotal, sumOf, asTransfer}
 use Rattle.money.specs.Text.{together, textOf, orderText, sumText}
 use Rattle.money.specs.declared.AmountRead.{AmountRead}
 use Rattle.money.specs.declared.AmountRead.the-variants.{Is as AmountIs, Not as NoAmount}
 use Rattle.money.specs.declared.Money.the-variants.{O}
 use Rattle.money.specs.declared.Sum.the-variants.{Fees}
-use Rattle.money.specs.declared.Transfer.the-variants.{Of, Not as NoTransfer}
+use Rattle.money.specs.declared.SumRead.the-variants.{Is as SumIs, Not as NoSum}
 
 abbrev orderTexts : List String → List AmountRead
 orderTexts = map (λ s. orderText (bytes s))
@@ -56,9 +56,9 @@ fees-in-range = refl
 sums-in-range : map isSum (0 ∷ 1 ∷ 9_999_999_999_999 ∷ 10_000_000_000_000 ∷ []) ≡ true ∷ true ∷ true ∷ false ∷ []
 sums-in-range = refl
 
-transfers : map (transferOf O) (0 ∷ 1 ∷ 9_999_999_999_999 ∷ 10_000_000_000_000 ∷ [])
-    ≡ NoTransfer ∷ Of (Fees (fee 1)) ∷ Of (Fees (fee 9_999_999_999_999)) ∷ NoTransfer ∷ []
-unfolding transferOf sumOf
+transfers : map (asTransfer O) (0 ∷ 1 ∷ 9_999_999_999_999 ∷ 10_000_000_000_000 ∷ [])
+    ≡ NoSum ∷ SumIs (Fees (fee 1)) ∷ SumIs (Fees (fee 9_999_999_999_999)) ∷ NoSum ∷ []
+unfolding asTransfer sumOf
 transfers = refl
 
 totals-in-range : map isTotal (999_999_999_999_999 ∷ 1_000_000_000_000_000 ∷ []) ≡ true ∷ false ∷ []

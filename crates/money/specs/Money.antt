@@ -11,8 +11,8 @@ use Rattle.money.specs.declared.Money.{Money}
 use Rattle.money.specs.declared.Money.the-variants.{K, O}
 use Rattle.money.specs.declared.Sum.{Sum}
 use Rattle.money.specs.declared.Sum.the-variants.{Amounts, Fees}
-use Rattle.money.specs.declared.Transfer.{Transfer}
-use Rattle.money.specs.declared.Transfer.the-variants.{Of, Not as NoTransfer}
+use Rattle.money.specs.declared.SumRead.{SumRead}
+use Rattle.money.specs.declared.SumRead.the-variants.{Is as SumIs, Not as NoSum}
 
 -- Grosze as either money.
 abbrev pub amount : ℕ → Amount
@@ -68,13 +68,13 @@ unfoldable pub groszeIn : Sum → ℕ
 groszeIn (Amounts amount) = amount .0
 groszeIn (Fees fee) = fee .0
 
-unfoldable pub moneyIn : Sum → Money
-moneyIn (Amounts amount) = K
-moneyIn (Fees fee) = O
+unfoldable pub moneyOfSum : Sum → Money
+moneyOfSum (Amounts amount) = K
+moneyOfSum (Fees fee) = O
 
 -- A transfer of a money, or none.
-unfoldable pub transferOf : Money → ℕ → Transfer
-transferOf money grosze = cond (isTransfer grosze) (Of (sumOf money grosze)) NoTransfer
+unfoldable pub asTransfer : Money → ℕ → SumRead
+asTransfer money grosze = cond (isTransfer grosze) (SumIs (sumOf money grosze)) NoSum
 
 unfoldable pub isAmount : AmountRead → Bool
 isAmount (AmountIs amount) = true

@@ -4,7 +4,7 @@ ghost use mathlib.Core.Path.{_≡_};
 ghost use Prim.Native.Nat.{_+_, _-_, _^_, _≤_};
 ghost use Rattle.text.specs.Number.{Below};
 ghost use Rattle.money.specs.Money.{amount, fee, orderCap, sumCap, isOrderAmount, isOrderFee, isSum, isTransfer, isTotal};
-ghost use Rattle.money.specs.Money.{WithinOrder, WithinSum, WithinTotal, sumOf, groszeIn, moneyIn, transferOf, isAmount, groszeOf, AtMost};
+ghost use Rattle.money.specs.Money.{WithinOrder, WithinSum, WithinTotal, sumOf, groszeIn, moneyOfSum, asTransfer, isAmount, groszeOf, AtMost};
 ghost use Rattle.money.specs.Text.{together, textOf, orderText, sumText};
 use text::bytes::byte_at;
 use text::bytes::slice;
@@ -38,9 +38,9 @@ pub enum Sum {
     Fees(Fee),
 }
 
-// A transfer of one money, or a refusal.
-pub enum Transfer {
-    Of(Sum),
+// A sum, or a refusal.
+pub enum SumRead {
+    Is(Sum),
     Not,
 }
 
@@ -227,13 +227,13 @@ impl Sum {
     }
 
     // The grosze as a transfer of a money, or a refusal.
-    pub fn of_transfer(money: Money, grosze: u64) -> Transfer
-        ensures { λ r. ⌜ r ≡ transferOf money grosze ⌝ }
+    pub fn of_transfer(money: Money, grosze: u64) -> SumRead
+        ensures { λ r. ⌜ r ≡ asTransfer money grosze ⌝ }
     {
         if !is_transfer(money, grosze) {
-            return Transfer::Not;
+            return SumRead::Not;
         }
-        Transfer::Of(Self::of(money, grosze))
+        SumRead::Is(Self::of(money, grosze))
     }
 
     // Its grosze.
@@ -248,7 +248,7 @@ impl Sum {
 
     // Its money.
     pub fn money(self) -> Money
-        ensures { λ r. ⌜ r ≡ moneyIn self ⌝ }
+        ensures { λ r. ⌜ r ≡ moneyOfSum self ⌝ }
     {
         match self {
             Sum::Amounts(_) => Money::K,

@@ -12,7 +12,7 @@ use lib.ListN.{length, getD, take, drop, take-append-drop, List·getD-append}
 use Rattle.text.specs.Fields.{onto, fields}
 use Rattle.text.specs.Lines.{crlf, parted, withoutLastEnd, lines}
 use Rattle.text.specs.Utf8.{ascii, widthAt, wellFormedAfter, wellFormed}
-use Rattle.text.specs.Utf8Parts.{joined, FieldsJoin, LinesJoin, allAscii, PartsAreWellFormed, FieldsAreWellFormed, LinesAreWellFormed}
+use Rattle.text.specs.Utf8Parts.{partsJoined, FieldsJoin, LinesJoin, allAscii, PartsAreWellFormed, FieldsAreWellFormed, LinesAreWellFormed}
 use Rattle.text.proofs.Branches.{and-left, and-right, cond-either, either-way}
 use Rattle.text.proofs.FieldsByCuts.{count-of-fields}
 use Rattle.text.proofs.Places.{from-here}
@@ -107,28 +107,28 @@ around b more part t a h =
     (two .0, behind-all more t (and-right (ascii b) (allAscii more) a) (two .1))
 
 pub parts-are-well-formed : PartsAreWellFormed
-unfolding joined
+unfolding partsJoined
 parts-are-well-formed b more [] a h k = none-well-formed
 parts-are-well-formed b more (part ∷ []) a h zero = h
 parts-are-well-formed b more (part ∷ []) a h (suc k) = none-well-formed
-parts-are-well-formed b more (part ∷ next ∷ parts) a h zero = around b more part (joined (b ∷ more) (next ∷ parts)) a h .0
+parts-are-well-formed b more (part ∷ next ∷ parts) a h zero = around b more part (partsJoined (b ∷ more) (next ∷ parts)) a h .0
 parts-are-well-formed b more (part ∷ next ∷ parts) a h (suc k) =
-    parts-are-well-formed b more (next ∷ parts) a (around b more part (joined (b ∷ more) (next ∷ parts)) a h .1) k
+    parts-are-well-formed b more (next ∷ parts) a (around b more part (partsJoined (b ∷ more) (next ∷ parts)) a h .1) k
 
 -- what is parted joins again
-joined-onto : (parting : List ℕ) (b : ℕ) (parts : List (List ℕ)) → joined parting (onto b parts) ≡ b ∷ joined parting parts
-unfolding joined onto
+joined-onto : (parting : List ℕ) (b : ℕ) (parts : List (List ℕ)) → partsJoined parting (onto b parts) ≡ b ∷ partsJoined parting parts
+unfolding partsJoined onto
 joined-onto parting b [] = refl
 joined-onto parting b (part ∷ []) = refl
 joined-onto parting b (part ∷ next ∷ parts) = refl
 
-joined-next : (parting : List ℕ) (parts : List (List ℕ)) → 0 < length parts → joined parting ([] ∷ parts) ≡ parting ++ joined parting parts
-unfolding joined
+joined-next : (parting : List ℕ) (parts : List (List ℕ)) → 0 < length parts → partsJoined parting ([] ∷ parts) ≡ parting ++ partsJoined parting parts
+unfolding partsJoined
 joined-next parting [] h = absurd (omega arith)
 joined-next parting (part ∷ parts) h = refl
 
 pub fields-join : FieldsJoin
-unfolding fields joined
+unfolding fields partsJoined
 fields-join separator [] = refl
 fields-join separator (b ∷ s) =
     either-way (eqb b separator)
@@ -151,7 +151,7 @@ some-lines (b ∷ c ∷ s) =
     cond-either (λ parts. 0 < length parts) (crlf b c) ([] ∷ parted s) (onto b (parted (c ∷ s))) (λ e. omega arith) (λ e. onto-some b (parted (c ∷ s)))
 
 pub lines-join : LinesJoin
-unfolding parted joined
+unfolding parted partsJoined
 lines-join [] = refl
 lines-join (b ∷ []) = refl
 lines-join (b ∷ c ∷ s) =

@@ -9,17 +9,17 @@ use Rattle.text.specs.Lines.{parted, lines}
 use Rattle.text.specs.Utf8.{ascii, wellFormed}
 
 -- Some texts joined, with the same bytes between each and the next.
-unfoldable pub joined : List ℕ → List (List ℕ) → List ℕ
-joined parting [] = []
-joined parting (part ∷ []) = part
-joined parting (part ∷ next ∷ parts) = part ++ (parting ++ joined parting (next ∷ parts))
+unfoldable pub partsJoined : List ℕ → List (List ℕ) → List ℕ
+partsJoined parting [] = []
+partsJoined parting (part ∷ []) = part
+partsJoined parting (part ∷ next ∷ parts) = part ++ (parting ++ partsJoined parting (next ∷ parts))
 
 -- Fields join to their text again, and so do lines.
 abbrev pub FieldsJoin : Type 0
-FieldsJoin = (separator : ℕ) (s : List ℕ) → joined (separator ∷ []) (fields separator s) ≡ s
+FieldsJoin = (separator : ℕ) (s : List ℕ) → partsJoined (separator ∷ []) (fields separator s) ≡ s
 
 abbrev pub LinesJoin : Type 0
-LinesJoin = (s : List ℕ) → joined (0x0D ∷ 0x0A ∷ []) (parted s) ≡ s
+LinesJoin = (s : List ℕ) → partsJoined (0x0D ∷ 0x0A ∷ []) (parted s) ≡ s
 
 unfoldable pub allAscii : List ℕ → Bool
 allAscii [] = true
@@ -27,7 +27,7 @@ allAscii (b ∷ s) = ascii b && allAscii s
 
 -- Where texts joined by ASCII octets, at least one, are well formed, each of them is.
 abbrev pub PartsAreWellFormed : Type 0
-PartsAreWellFormed = (b : ℕ) (more : List ℕ) (parts : List (List ℕ)) → allAscii (b ∷ more) ≡ true → wellFormed (joined (b ∷ more) parts) ≡ true
+PartsAreWellFormed = (b : ℕ) (more : List ℕ) (parts : List (List ℕ)) → allAscii (b ∷ more) ≡ true → wellFormed (partsJoined (b ∷ more) parts) ≡ true
     → (k : ℕ) → wellFormed (getD parts k []) ≡ true
 
 -- So each field of a well-formed text is well formed, and each line.

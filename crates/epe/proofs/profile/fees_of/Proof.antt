@@ -1,4 +1,4 @@
--- `epe::profile::fees_of` is `feesOf`: each number is a fee.
+-- `epe::profile::fees_of` is `asFees`: each number is a fee.
 use Rattle.epe.proofs.ProfileLaws.{fee-within, fees-listed}
 use borrow.Author.Needs.{needs}
 use Rattle.epe.proofs.profile.fees_of.Statement.{statement}

@@ -1,6 +1,6 @@
--- `money::Sum::money` is `moneyIn`.
+-- `money::Sum::money` is `moneyOfSum`.
 use borrow.Author.Needs.{needs}
-use Rattle.money.specs.Money.{moneyIn}
+use Rattle.money.specs.Money.{moneyOfSum}
 use Rattle.money.proofs.Sum.money.Statement.{statement}
 use Rattle.money.proofs.Sum.money.Tie as tie
 use Rattle.money.proofs.Sum.money.Reads as reads
@@ -13,11 +13,11 @@ enum-told-2 : tie.Need-enum-told-2
 enum-told-2 c = search needs
 
 returns : tie.Need-returns
-unfolding moneyIn
+unfolding moneyOfSum
 returns c = search needs
 
 returns-2 : tie.Need-returns-2
-unfolding moneyIn
+unfolding moneyOfSum
 returns-2 c = search needs
 
 pub money-spec : {M : Type 1} → statement M
