@@ -18,7 +18,7 @@ use Rattle.calendar.specs.Reading.{dateOf, dateOfNumber, dateOfDigits, dateInWi
 use Rattle.calendar.specs.Time.{clockTime, timeOfNumber, timeOfDay}
 use Rattle.epe.specs.Questions.{firstNo}
 use Rattle.epe.specs.Ident.{identifier}
-use Rattle.epe.specs.Profile.{feesOf, profileFits, feesFit}
+use Rattle.epe.specs.Profile.{asFees, profileFits, feesFit}
 use Rattle.epe.specs.Name.{nameQuestions}
 use Rattle.epe.specs.File.{marked}
 use Rattle.epe.specs.Opening.{fileQuestions, fixedQuestions, repeatedQuestions, openingQuestions, opening}
@@ -26,7 +26,7 @@ use Rattle.epe.specs.Faults.{sized, empty, placed, housed, postcode, ext
 use Rattle.epe.specs.Contents.{dateQuestions, statedQuestions, shaped, allShaped, allPriced, total, recordQuestions, contentsQuestions, contents}
 use Rattle.epe.specs.Contents.{orderOf, orders, faultyCount, judgedOf, linesRead, ordersRead}
 use Rattle.epe.specs.Kept.{orderFrom, ordersIn, keptFrom}
-use Rattle.epe.specs.Steps.{statedBeside, headerQuestions, statedOf, recordsOf}
+use Rattle.epe.specs.Steps.{statedBeside, headerQuestions, statedOf, recordsOf, noneKept, keptWhere, judgedRecords}
 use Rattle.epe.specs.declared.file.Judged.the-variants.{Accepted, Refused as NotAccepted}
 use Rattle.epe.specs.declared.profile.Profile.{Profile}
 use Rattle.epe.specs.declared.record.Order.{Order}
@@ -43,7 +43,7 @@ file lines = 0xEF ∷ 0xBB ∷ 0xBF ∷ ended lines
 
 -- "F 350", today 7 October 2020, records of 19 fields.
 abbrev profile : Profile
-profile = record { today = record { 0 = 20201007 }; fees = feesOf (350 ∷ 350 ∷ 350 ∷ 350 ∷ 350 ∷ []); fields = 19 }
+profile = record { today = record { 0 = 20201007 }; fees = asFees (350 ∷ 350 ∷ 350 ∷ 350 ∷ 350 ∷ []); fields = 19 }
 
 -- "ZS1: orders 100.00, 50.00 (no surname), 25.50."
 abbrev first : String
@@ -67,7 +67,7 @@ unfolding ascii tailOctet lead2 lead3 lead4 point2 point3 point4 surrogate range
 opens = opening
 
 holdsOrders : Profile → List ℕ → Verdict
-unfolding opens starts codePoints isAmount groszeOf textOf together inWindow dayNumber daysOfYears daysOfMonths dateOf dateOfNumber dateOfDigits dateInWindow clockTime timeOfNumber timeOfDay profileFits feesFit feesOf sized empty placed housed postcode extra spaced unspaced faultQuestions faultIn faultOf dateQuestions statedQuestions shaped allShaped allPriced total recordQuestions contentsQuestions contents orderOf orders faultyCount judgedOf
+unfolding opens starts codePoints isAmount groszeOf textOf together inWindow dayNumber daysOfYears daysOfMonths dateOf dateOfNumber dateOfDigits dateInWindow clockTime timeOfNumber timeOfDay profileFits feesFit asFees sized empty placed housed postcode extra spaced unspaced faultQuestions faultIn faultOf dateQuestions statedQuestions shaped allShaped allPriced total recordQuestions contentsQuestions contents orderOf orders faultyCount judgedOf
 holdsOrders = contents
 
 abbrev order : ℕ → ℕ → Order
@@ -91,12 +91,17 @@ unfolding holdsOrders statedOf statedBeside headerQuestions
 stated = refl
 
 judged-behind : map (λ r. recordsOf r 3 17_550 zs1 .judged) (19 ∷ 20 ∷ 33 ∷ []) ≡ Accepted 3 1 ∷ NotAccepted 901 ∷ NotAccepted 901 ∷ []
-unfolding holdsOrders recordsOf
+unfolding holdsOrders recordsOf judgedRecords
 judged-behind = refl
 
 kept-behind : ordersIn (recordsOf 19 3 17_550 zs1 .kept) 0 3 ≡ orders zs1
-unfolding holdsOrders recordsOf linesRead ordersRead keptFrom ordersIn orderFrom
+unfolding holdsOrders recordsOf judgedRecords keptWhere linesRead ordersRead keptFrom ordersIn orderFrom
 kept-behind = refl
+
+-- A file that is refused is kept nothing of.
+unkept-behind : recordsOf 19 2 17_550 zs1 .kept ≡ noneKept
+unfolding holdsOrders recordsOf judgedRecords keptWhere
+unkept-behind = refl
 
 -- A header by itself, with bytes behind it.
 abbrev headed : List ℕ → List ℕ

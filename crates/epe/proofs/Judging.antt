@@ -15,12 +15,11 @@ use Rattle.epe.specs.Contents.{shaped, allShaped, allPriced, total, orde
 use Rattle.epe.specs.File.{header, records}
 use Rattle.epe.specs.Profile.{feesFit, profileFits}
 use Rattle.epe.specs.Kept.{keptFrom}
-use Rattle.epe.specs.Steps.{statedBeside, headerQuestions, statedOf, noneKept, recordsOf, recordsBehind, TwoStepsAreContents}
+use Rattle.epe.specs.Steps.{statedBeside, headerQuestions, statedOf, noneKept, Records, keptWhere, judgedRecords, recordsOf, recordsBehind, TwoStepsAreContents}
 use Rattle.epe.specs.Walk.{linesFrom, lineEnd, body}
 use Rattle.epe.specs.Tally.{Tallied, tallyJudged}
 use Rattle.epe.specs.declared.file.Judged.{Judged}
 use Rattle.epe.specs.declared.file.Judged.the-variants.{Accepted, Refused as NotAccepted}
-use Rattle.epe.specs.declared.file.Records.{Records}
 use Rattle.epe.specs.declared.file.Stated.{Stated}
 use Rattle.epe.specs.declared.file.Tally.{Tally}
 use Rattle.epe.specs.declared.record.Order.{Order}
@@ -28,7 +27,7 @@ use Rattle.epe.specs.declared.verdict.Verdict.{Verdict}
 use Rattle.epe.specs.declared.verdict.Verdict.the-variants.{Passed, Refused}
 use Rattle.epe.specs.declared.profile.Profile.{Profile}
 use Rattle.epe.proofs.Asking.{join-no, join-yes}
-use Rattle.epe.proofs.QuestionLaws.{all-yes}
+use Rattle.epe.proofs.QuestionLaws.{all-yes, all-yes-passed, yes-before}
 use Rattle.epe.proofs.Walking.{next-of, header-first, records-after}
 
 -- the four questions of the records, answered by their tally
@@ -123,14 +122,16 @@ module _ (file t : List ℕ) (fields : ℕ) {end from : ℕ} {tally : Tally} {be
 -- what the second step comes to
 module _ (r count sum : ℕ) (file : List ℕ) where
   pub records-beyond : 32 < r → record { judged = NotAccepted 901; kept = noneKept } ≡ recordsOf r count sum file
-  unfolding recordsOf
+  unfolding recordsOf judgedRecords keptWhere
   records-beyond h = rw (lt-leb r 32 h)
 
   pub records-within : {judged : Judged} {kept : List ℕ} → r ≤ 32
-      → judged ≡ judgedOf (firstNo (recordQuestions r count sum (records file))) (orders file) → kept ≡ keptFrom noneKept 0 (ordersRead r file)
-      → record { judged = judged; kept = kept } ≡ recordsOf r count sum file
-  unfolding recordsOf
-  records-within h is-judged is-kept = rw (le-leb r 32 h) (λ t. record { judged = is-judged t; kept = is-kept t })
+      → judged ≡ judgedOf (firstNo (recordQuestions r count sum (records file))) (orders file)
+      → kept ≡ keptWhere judged (keptFrom noneKept 0 (ordersRead r file)) → record { judged = judged; kept = kept } ≡ recordsOf r count sum file
+  unfolding recordsOf judgedRecords
+  records-within h is-judged is-kept =
+      rw (le-leb r 32 h)
+      (λ t. record { judged = is-judged t; kept = (is-kept ∙ ap (λ j. keptWhere j (keptFrom noneKept 0 (ordersRead r file))) is-judged) t })
 
 -- where all lines are shaped, all are read
 all-read : (r n : ℕ) (lines : List (List ℕ)) → allShaped r n lines ≡ true → linesRead r n lines ≡ lines
@@ -162,11 +163,8 @@ module _ (profile : Profile) (file : List ℕ) where
   unfolding statedOf statedBeside
   verdict-first = refl
 
-  allowed : profileFits profile ≡ true → recordsBehind profile file ≡ record {
-    judged = judgedOf (firstNo second) (orders file);
-    kept = keptFrom noneKept 0 (ordersRead (profile .fields) file);
-  }
-  unfolding recordsOf
+  allowed : profileFits profile ≡ true → recordsBehind profile file .judged ≡ judgedOf (firstNo second) (orders file)
+  unfolding recordsOf judgedRecords
   allowed fits = rw (le-leb (profile .fields) 32 (fields-allowed profile fits))
 
   refused-first : (n : ℕ) → statedOf profile file .verdict ≡ Refused n → contents profile file ≡ Refused n
@@ -177,15 +175,17 @@ module _ (profile : Profile) (file : List ℕ) where
   unfolding headerQuestions
   decided-second passed =
       let fits = all-yes first (sym verdict-first ∙ passed) .0 in
-      ap (λ (r : Records). r .judged) (allowed fits)
+      allowed fits
       ∙ judged-after first second (orders file) (sym verdict-first ∙ passed)
       ∙ ap (λ (v : Verdict). judgedOf v (orders file)) (sym in-two)
 
   all-kept : contents profile file ≡ Passed → recordsBehind profile file .kept ≡ keptFrom noneKept 0 (orders file)
-  unfolding contents contentsQuestions
+  unfolding recordsOf keptWhere judgedOf
   all-kept passed =
-      let fits = all-yes (contentsQuestions profile file) passed .0 in
-      ap (λ (r : Records). r .kept) (allowed fits) ∙ ap (keptFrom noneKept 0) (accepted-is-read profile file passed)
+      let headed = verdict-first ∙ all-yes-passed first (yes-before first second (all-yes (first ++ second) (sym in-two ∙ passed))) in
+      let judged-is = decided-second headed ∙ ap (λ (v : Verdict). judgedOf v (orders file)) passed in
+      ap (λ j. keptWhere j (keptFrom noneKept 0 (ordersRead (profile .fields) file))) judged-is
+      ∙ ap (keptFrom noneKept 0) (accepted-is-read profile file passed)
 
 pub two-steps-are-contents : TwoStepsAreContents
 two-steps-are-contents = record { first-refuses = refused-first; second-decides = decided-second; accepted-kept = all-kept }

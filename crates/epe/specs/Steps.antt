@@ -10,8 +10,8 @@ use Rattle.epe.specs.Profile.{profileFits}
 use Rattle.epe.specs.File.{header, records}
 use Rattle.epe.specs.Contents.{statedCount, statedSum, dateQuestions, statedQuestions, recordQuestions, contents, orders, ordersRead, judgedOf}
 use Rattle.epe.specs.Kept.{keptFrom}
-use Rattle.epe.specs.declared.file.Judged.the-variants.{Refused as NotAccepted}
-use Rattle.epe.specs.declared.file.Records.{Records}
+use Rattle.epe.specs.declared.file.Judged.{Judged}
+use Rattle.epe.specs.declared.file.Judged.the-variants.{Accepted, Refused as NotAccepted}
 use Rattle.epe.specs.declared.file.Stated.{Stated}
 use Rattle.epe.specs.declared.profile.Profile.{Profile}
 use Rattle.epe.specs.declared.verdict.Verdict.the-variants.{Passed, Refused}
@@ -32,16 +32,27 @@ statedOf profile file = statedBeside (headerQuestions profile file) (header file
 abbrev pub noneKept : List ℕ
 noneKept = replicate 2_048 0
 
--- The second step: 901, 902, 129, 132 of the records of R fields, and the orders that are read, kept.
+-- What the second step comes to, and the table after it.
+pub record Records : Type 0 where
+  pub judged : Judged
+  pub kept : List ℕ
+
+-- "A refusal leaves .. every lent table as they stood before it": it keeps no order.
+unfoldable pub keptWhere : Judged → List ℕ → List ℕ
+keptWhere (Accepted orders faulty) kept = kept
+keptWhere (NotAccepted n) kept = noneKept
+
+-- The second step: 901, 902, 129, 132 of the records of R fields, and of a file that passes the orders, kept in a table that kept none.
 -- No profile asks for more than 32 fields; for more the answer is that no record is in shape.
+unfoldable pub judgedRecords : ℕ → ℕ → ℕ → List ℕ → Judged
+judgedRecords r count sum file =
+    cond (leb r 32) (judgedOf (firstNo (recordQuestions r count sum (records file))) (orders file)) (NotAccepted 901)
+
 unfoldable pub recordsOf : ℕ → ℕ → ℕ → List ℕ → Records
-recordsOf r count sum file =
-    cond (leb r 32)
-    (record {
-      judged = judgedOf (firstNo (recordQuestions r count sum (records file))) (orders file);
-      kept = keptFrom noneKept 0 (ordersRead r file);
-    })
-    (record { judged = NotAccepted 901; kept = noneKept })
+recordsOf r count sum file = record {
+  judged = judgedRecords r count sum file;
+  kept = keptWhere (judgedRecords r count sum file) (keptFrom noneKept 0 (ordersRead r file));
+}
 
 -- The second step as it follows the first: of the profile's number of fields, and of what the header states.
 abbrev pub recordsBehind : Profile → List ℕ → Records

@@ -4,7 +4,7 @@ ghost use mathlib.Core.Bool.{cond, _&&_};
 ghost use mathlib.Core.List.{_++_};
 ghost use Prim.Native.Nat.{_+_, _≤_};
 ghost use lib.Dec.{eqb, ltb};
-ghost use lib.ListN.{length, set};
+ghost use lib.ListN.{length, set, replicate};
 ghost use Rattle.text.specs.Utf8.{wellFormed};
 ghost use Rattle.epe.specs.Questions.{firstNo};
 ghost use Rattle.epe.specs.File.{marked, text};
@@ -12,9 +12,9 @@ ghost use Rattle.epe.specs.Opening.{fileQuestions, fixedQuestions, repea
 ghost use Rattle.epe.specs.Contents.{dateQuestions, statedQuestions};
 ghost use Rattle.epe.specs.Cut.{CutOf};
 ghost use Rattle.epe.specs.Kept.{Keepable, keptCode};
-ghost use Rattle.epe.specs.Steps.{statedBeside, statedOf, recordsOf};
+ghost use Rattle.epe.specs.Steps.{statedBeside, statedOf, noneKept, keptWhere, recordsOf};
 ghost use Rattle.epe.specs.Walk.{linesFrom, body};
-ghost use Rattle.epe.specs.Tally.{added, Small, Tallied, tallyJudged};
+ghost use Rattle.epe.specs.Tally.{added, SmallTally, Tallied, tallyJudged};
 use crate::header::judge_count_and_sum;
 use crate::header::judge_dates;
 use crate::header::judge_fixed;
@@ -68,12 +68,6 @@ pub struct Stated {
     pub verdict: Verdict,
     pub count: u64,
     pub sum: u64,
-}
-
-// What the records come to beside what the header states, and their orders, kept for one who enters them.
-pub struct Records {
-    pub judged: Judged,
-    pub kept: [u64; 2_048],
 }
 
 // Is the byte mark there?
@@ -174,7 +168,7 @@ fn both(a: bool, b: bool) -> bool
 
 // The tally with one order more.
 fn with_order(tally: Tally, order: Order) -> Tally
-    requires { ⌜ Small tally order ⌝ }
+    requires { ⌜ SmallTally tally order ⌝ }
     ensures { λ r. ⌜ r ≡ added tally order ⌝ }
 {
     let grosze = order.amount.0;
@@ -293,21 +287,41 @@ pub fn judge_stated(profile: Profile, file: &[u8]) -> Stated
     stated
 }
 
-// What the records of so many fields come to beside the number of orders and the sum stated, the questions 901 to 132, and the orders that are read.
-pub fn judge_records(fields: u64, count: u64, sum: u64, file: &[u8]) -> Records
-    ensures { λ r. ⌜ r ≡ recordsOf fields count sum (now (file .entry)) ⌝ }
+// Puts zeros into a table.
+fn clear(table: &mut [u64])
+    ensures { λ _. ⌜ now (table .exit) ≡ replicate (length (now (table .entry))) 0 ⌝ }
 {
-    let mut kept = [0u64; 2_048];
+    let mut i = table.len();
+    while 0 < i {
+        i -= 1;
+        table[i] = 0;
+    }
+}
+
+// What a judgement of records comes to for the table that kept their orders: a refusal clears it.
+fn settle(judged: Judged, kept: &mut [u64]) -> Judged
+    requires { ⌜ length (now kept) ≡ 2_048 ⌝ }
+    ensures { λ r. ⌜ (r ≡ judged) × (now (kept .exit) ≡ keptWhere judged (now (kept .entry))) ⌝ }
+{
+    match judged {
+        Judged::Accepted(orders, faulty) => Judged::Accepted(orders, faulty),
+        Judged::Refused(number) => {
+            clear(kept);
+            Judged::Refused(number)
+        }
+    }
+}
+
+// The questions 901, 902, 129 and 132 of records of so many fields, beside what the header states. The orders are kept in a table that keeps none yet,
+// as far as it goes; a refusal leaves it so.
+pub fn judge_records(fields: u64, count: u64, sum: u64, file: &[u8], kept: &mut [u64]) -> Judged
+    requires { ⌜ now kept ≡ noneKept ⌝ }
+    ensures { λ r. ⌜ record { judged = r; kept = now (kept .exit) } ≡ recordsOf fields count sum (now (file .entry)) ⌝ }
+{
     if 32 < fields {
-        return Records {
-            judged: Judged::Refused(refusals::RECORD_SHAPE),
-            kept,
-        };
+        return Judged::Refused(refusals::RECORD_SHAPE);
     }
     let s = body_of(file);
-    let tally = tally_records(s, after_line(s, line_end(s, 0)), fields, &mut kept);
-    Records {
-        judged: judge_tally(tally, count, sum),
-        kept,
-    }
+    let tally = tally_records(s, after_line(s, line_end(s, 0)), fields, kept);
+    settle(judge_tally(tally, count, sum), kept)
 }
