@@ -5,7 +5,7 @@ use mathlib.Core.Bool.{Bool, true, false}
 use mathlib.Core.List.{List}
 use Prim.Native.Nat.{ℕ}
 use Rattle.model.specs.Shipment.{Shipment}
-use Rattle.model.specs.Calls.{Answer, Refused, isRefusal, Outcome, leave, ask, withRows}
+use Rattle.model.specs.Calls.{Answer, Refused, changesNothing, Outcome, leave, ask, withRows}
 use Rattle.model.specs.declared.Row.{Row}
 use Rattle.model.proofs.Asking.{not-both}
 use Rattle.memory.specs.Layout.{headBytes, OnlyHead}
@@ -32,13 +32,13 @@ module _ {m : List ℕ} {i k : ℕ} {does : Shipment → Outcome} where
     only = only-nothing;
     orders = refl;
     flags = λ h. h;
-    refused = λ refusal. refl;
+    unmoved = λ still. refl;
   }
 
   pub refused-at : {number : ℕ} → does (shipmentAt m i k) ≡ leave (Refused number) (shipmentAt m i k) → ActAt m i k does (Refused number) m
   refused-at = left-at
 
-  module _ {m′ : List ℕ} {answer : Answer} (taken : isRefusal answer ≡ false) where
+  module _ {m′ : List ℕ} {answer : Answer} (taken : changesNothing answer ≡ false) where
     pub head-changed : {t : Shipment} → OnlyHead i m m′ → shipmentIn (headBytes m′ i) (rowsFrom m k (ordersAt m i)) ≡ t
         → does (shipmentAt m i k) ≡ leave answer t → ordersAt m′ i ≡ ordersAt m i
         → (flagsInForm (headBytes m i) ≡ true → flagsInForm (headBytes m′ i) ≡ true) → ActAt m i k does answer m′
@@ -48,7 +48,7 @@ module _ {m : List ℕ} {i k : ℕ} {does : Shipment → Outcome} where
       only = head-of-shipment only;
       orders = orders;
       flags = flags;
-      refused = λ refusal. absurd (not-both (isRefusal answer) refusal taken);
+      unmoved = λ still. absurd (not-both (changesNothing answer) still taken);
     }
 
     pub rows-changed : {rows : List Row} → OnlyShipment i k (ordersAt m i) m m′ → headBytes m′ i ≡ headBytes m i → rowsFrom m′ k (ordersAt m i) ≡ rows
@@ -60,5 +60,5 @@ module _ {m : List ℕ} {i k : ℕ} {does : Shipment → Outcome} where
       only = only;
       orders = rw head;
       flags = λ h. rw head h;
-      refused = λ refusal. absurd (not-both (isRefusal answer) refusal taken);
+      unmoved = λ still. absurd (not-both (changesNothing answer) still taken);
     }

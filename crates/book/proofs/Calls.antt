@@ -9,17 +9,17 @@ use borrow.Author.Tests.{le-leb}
 use lib.ListN.{length, getD}
 use Rattle.text.proofs.Branches.{either-way}
 use Rattle.model.specs.Shipment.{Shipment}
-use Rattle.model.specs.Calls.{Call, Answer, Refused, isRefusal, Outcome}
+use Rattle.model.specs.Calls.{Call, Answer, Refused, changesNothing, Outcome}
 use Rattle.model.specs.Book.{Book, stay, step}
 use Rattle.model.specs.Sound.{sound}
 use Rattle.model.proofs.StaysSound.{stays-sound}
 use Rattle.memory.specs.Layout.{size}
-use Rattle.memory.specs.Read.{shipmentsIn, bookIn, soundIn, readBook}
+use Rattle.memory.specs.Read.{shipmentsIn, bookIn, soundIn, readBook, Sits}
 use Rattle.sound.proofs.ReadLaws.{sound-parts}
 use Rattle.book.specs.declared.place.Place.{Place}
 use Rattle.book.specs.declared.place.Place.the-variants.{Unsound, Unknown, At}
 use Rattle.book.specs.Does.{unreadable, Does}
-use Rattle.book.specs.Place.{placeFrom, placeIn, Sits, ActAt, Seeks}
+use Rattle.book.specs.Place.{placeFrom, placeIn, ActAt, Seeks}
 use Rattle.book.proofs.Finding.{Found, found, never-unsound, within}
 use Rattle.book.proofs.Changing.{none-found, first-acted, flags-kept}
 
@@ -64,7 +64,7 @@ does-no-book unread unsound = record {
   unsound = λ read. sym unread;
   answers = λ book read. let held = rw unsound at read in cc;
   leaves = λ book read. let held = rw unsound at read in cc;
-  refused = λ refusal. refl;
+  unmoved = λ still. refl;
   behind = λ j far. refl;
   as-long = refl;
 }
@@ -72,13 +72,13 @@ does-no-book unread unsound = record {
 -- a sound book, and after it the sound book that the step leaves
 pub does-step : {m m′ : List ℕ} {call : Call} {answer : Answer} → soundIn m ≡ true → soundIn m′ ≡ true
     → step (bookIn m) call ≡ record { book = bookIn m′; answer = answer }
-    → (isRefusal answer ≡ true → m′ ≡ m) → ((j : ℕ) → size ≤ j → getD m′ j 0 ≡ getD m j 0) → length m′ ≡ length m → Does m call answer m′
+    → (changesNothing answer ≡ true → m′ ≡ m) → ((j : ℕ) → size ≤ j → getD m′ j 0 ≡ getD m j 0) → length m′ ≡ length m → Does m call answer m′
 unfolding readBook
-does-step {m} before after stepped refused behind as-long = record {
+does-step {m} before after stepped unmoved behind as-long = record {
   unsound = λ read. let held = rw before at read in cc;
   answers = λ book read. let held = rw before at read in let same : bookIn m ≡ book = cc in rw (← same, stepped);
   leaves = λ book read. let held = rw before at read in let same : bookIn m ≡ book = cc in rw (← same, stepped, after);
-  refused = refused;
+  unmoved = unmoved;
   behind = behind;
   as-long = as-long;
 }
@@ -121,4 +121,4 @@ module _ {is : List ℕ → Bool} {does : Shipment → Outcome} {call : Call} (s
         rw (enough, act .only .shipments, kept, book)
 
     pub does-at : Does m call answer m′
-    does-at = does-step (at-place is m i k placed .0) sound-after stepped (act .refused) (act .only .behind) (act .only .as-long)
+    does-at = does-step (at-place is m i k placed .0) sound-after stepped (act .unmoved) (act .only .behind) (act .only .as-long)

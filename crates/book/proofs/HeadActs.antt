@@ -9,15 +9,15 @@ use lib.ListN.{length, set}
 use Rattle.money.specs.declared.Money.{Money}
 use Rattle.money.specs.declared.Money.the-variants.{K, O}
 use Rattle.model.specs.Shipment.{Shipment, accepted, returned}
-use Rattle.model.specs.Calls.{Answer, isRefusal, Outcome, leave, withStage, withGoAhead, withAccepted, withReturned}
+use Rattle.model.specs.Calls.{Answer, changesNothing, Outcome, leave, withStage, withGoAhead, withAccepted, withReturned}
 use Rattle.model.specs.declared.Stage.{Stage}
 use Rattle.memory.specs.Number.{numberAt, withNumber}
 use Rattle.memory.specs.Layout.{headAt, headBytes, OnlyHead}
 use Rattle.memory.specs.Heads.{stageByte, acceptedAt, returnedAt, shipmentIn}
-use Rattle.memory.specs.Read.{rowsFrom, ordersAt, shipmentAt}
+use Rattle.memory.specs.Read.{rowsFrom, ordersAt, shipmentAt, Sits}
 use Rattle.memory.proofs.Parts.{part-long, head-byte, head-byte-only, head-number, head-number-only}
 use Rattle.memory.proofs.HeadLaws.{FormKept, number-keeps-form, stage-keeps-form, go-ahead-keeps-form, field-stored}
-use Rattle.book.specs.Place.{Sits, ActAt}
+use Rattle.book.specs.Place.{ActAt}
 use Rattle.book.proofs.Acting.{head-changed}
 
 accepted-within : (money : Money) → (32 ≤ acceptedAt money) × (acceptedAt money + 8 ≤ 64)
@@ -39,7 +39,7 @@ module _ {m : List ℕ} {i k : ℕ} (sits : Sits m i k) where
   unfolding headBytes
   whole = part-long m (headAt i) 64 (omega (arith, sits .enough, sits .few))
 
-  module _ {does : Shipment → Outcome} {answer : Answer} (taken : isRefusal answer ≡ false) where
+  module _ {does : Shipment → Outcome} {answer : Answer} (taken : changesNothing answer ≡ false) where
     changed : {m′ head′ : List ℕ} {t : Shipment} → OnlyHead i m m′ → headBytes m′ i ≡ head′ → FormKept head head′
         → shipmentIn head′ (rowsFrom m k (ordersAt m i)) ≡ t → does s ≡ leave answer t → ActAt m i k does answer m′
     changed only new form shipment done =

@@ -7,17 +7,16 @@ use Prim.Native.Nat.{ℕ, zero, suc, _+_, _-_, _≤_, _<_, _^_}
 use native.Mathlib.Omega.{arith}
 use borrow.Author.Tests.{leb-true, leb-false, le-leb, lt-leb, le-ltb, lt-ltb}
 use lib.Dec.{leb, ltb}
-use lib.ListN.{length, getD}
+use lib.ListN.{length, getD, length-replicate}
 use Rattle.text.proofs.Branches.{and-left, and-right, either-way}
-use Rattle.money.specs.Money.{orderCap}
 use Rattle.epe.specs.Name.{nameOf, nameInForm}
-use Rattle.epe.specs.Profile.{feesFit, profileFits}
+use Rattle.epe.specs.Profile.{profileFits}
 use Rattle.epe.specs.Opening.{opening, openingOf}
-use Rattle.epe.specs.Contents.{contents, orders, ordersRead, faultyCount, judgedOf}
+use Rattle.epe.specs.Contents.{contents, orders, faultyCount, judgedOf}
+use Rattle.epe.specs.Steps.{noneKept, Records, statedOf, recordsBehind}
 use Rattle.epe.specs.Accepted.{EachInRange}
 use Rattle.epe.specs.Kept.{ordersIn, keptFrom}
 use Rattle.epe.specs.declared.file.Opening.{Opening}
-use Rattle.epe.specs.declared.file.Judged.{Judged}
 use Rattle.epe.specs.declared.file.Judged.the-variants as judged
 use Rattle.epe.specs.declared.name.Name.{Name}
 use Rattle.epe.specs.declared.profile.Profile.{Profile}
@@ -25,14 +24,14 @@ use Rattle.epe.specs.declared.record.Order.{Order}
 use Rattle.epe.specs.declared.verdict.Verdict.{Verdict}
 use Rattle.epe.specs.declared.verdict.Verdict.the-variants.{Passed, Refused as No}
 use Rattle.epe.proofs.AcceptedAsStated.{accepted-as-stated}
-use Rattle.epe.proofs.Judging.{accepted-is-read}
+use Rattle.epe.proofs.Judging.{two-steps-are-contents}
 use Rattle.epe.proofs.Keeping.{kept-in-order}
 use Rattle.model.specs.Shipment.{Shipment}
 use Rattle.model.specs.Calls.{Call, Intake, Answer, Refused, Accepted}
-use Rattle.model.specs.Book.{Book, Step, stay, inquire, unlessRefused, isUnknown, rowsIn, enteredRow, newShipment, entered, takenIn, step}
+use Rattle.model.specs.Book.{feeFor, Book, Step, stay, inquire, unlessRefused, isUnknown, rowsIn, enteredRow, newShipment, entered, takenIn, step}
 use Rattle.model.specs.Sound.{sound}
 use Rattle.model.proofs.SoundParts.{halves}
-use Rattle.model.proofs.StaysSound.{stays-sound, opened-in-form}
+use Rattle.model.proofs.StaysSound.{stays-sound, opened-in-form, fee-fits}
 use Rattle.memory.specs.Layout.{size}
 use Rattle.memory.specs.Read.{shipmentsFrom, shipmentsIn, bookIn, soundIn}
 use Rattle.sound.proofs.ReadLaws.{shipments-many, sound-parts}
@@ -41,15 +40,8 @@ use Rattle.book.specs.Entering.{enteredIn, Fits, Opened, Counted, Shipme
 use Rattle.book.proofs.Calls.{does-no-book, does-step, stays}
 
 -- a fee of the profile
-fee-fits : (fees : List ℕ) (kind : ℕ) → feesFit fees ≡ true → getD fees kind 0 ≤ orderCap
-unfolding feesFit
-fee-fits [] kind h = omega arith
-fee-fits (fee ∷ fees) zero h = leb-true fee orderCap (and-left (leb fee orderCap) (feesFit fees) h)
-fee-fits (fee ∷ fees) (suc kind) h = fee-fits fees kind (and-right (leb fee orderCap) (feesFit fees) h)
-
-pub fee-below : (profile : Profile) (kind : ℕ) → profileFits profile ≡ true → getD (profile .fees) kind 0 < 2 ^ 32
-unfolding profileFits
-fee-below profile kind h = omega (arith, fee-fits (profile .fees) kind (search halves))
+pub fee-below : (profile : Profile) (kind : ℕ) → profileFits profile ≡ true → feeFor profile kind < 2 ^ 32
+fee-below profile kind h = omega (arith, fee-fits profile kind h)
 
 pub kind-below : (name : Name) → nameInForm name ≡ true → name .kind ≤ 4
 unfolding nameInForm
@@ -115,7 +107,6 @@ module _ (m : List ℕ) (i : ℕ) (name : Name) (fee n faulty : ℕ) (kept : Lis
         few = few;
         from = from-is;
         room = omega (arith, from-within);
-        all = omega (arith, counted .enough);
         in-range = counted .in-range (omega arith);
         in-form = opened .in-form;
         fee-fits = opened .fee-fits;
@@ -138,7 +129,7 @@ module _ (m : List ℕ) (i : ℕ) (name : Name) (fee n faulty : ℕ) (kept : Lis
 
 -- what the contents come to
 module _ (m : List ℕ) (i : ℕ) (profile : Profile) (name : Name) (file : List ℕ) (fits : profileFits profile ≡ true) (is-sound : soundIn m ≡ true)
-    (last : i ≡ shipmentsIn m) (in-form : nameInForm name ≡ true) {fee : ℕ} (is-fee : fee ≡ getD (profile .fees) (name .kind) 0) where
+    (last : i ≡ shipmentsIn m) (in-form : nameInForm name ≡ true) {fee : ℕ} (is-fee : fee ≡ feeFor profile (name .kind)) where
   pub opened : Opened m i name fee
   opened = record { sound = is-sound; last = last; in-form = in-form; fee-fits = omega (arith, is-fee, fee-below profile (name .kind) fits) }
 
@@ -156,32 +147,44 @@ module _ (m : List ℕ) (i : ℕ) (profile : Profile) (name : Name) (file : List
   refused-with Passed number h = let never : _≡_ {A = ℕ} 0 1 = cc in absurd (omega arith)
   refused-with (No n) number h = cc
 
-  module _ {result : Judged} (is-result : result ≡ judgedOf (contents profile file) (orders file)) where
-    pub contents-refused : {number : ℕ} → result ≡ judged.Refused number
-        → DoesEnter (contents profile file) (entered profile name (orders file)) (length (orders file)) (faultyCount (orders file)) m (Refused number) m
-    unfolding unlessRefused
-    contents-refused {number} refused = record {
-      by-call = λ call stepped.
-          let verdict = refused-with (contents profile file) number (sym is-result ∙ refused) in
-          stays is-sound (stepped ∙ ap (λ v. unlessRefused v (bookIn m) (enteredIn (entered profile name (orders file)) (length (orders file)) (faultyCount (orders file)) (bookIn m))) verdict);
-    }
+  pub contents-refused : {number : ℕ} → contents profile file ≡ No number
+      → DoesEnter (contents profile file) (entered profile name (orders file)) (length (orders file)) (faultyCount (orders file)) m (Refused number) m
+  unfolding unlessRefused
+  contents-refused verdict = record {
+    by-call = λ call stepped.
+        stays is-sound (stepped ∙ ap (λ v. unlessRefused v (bookIn m) (enteredIn (entered profile name (orders file)) (length (orders file)) (faultyCount (orders file)) (bookIn m))) verdict);
+  }
 
-    module _ {n faulty : ℕ} (accepted : result ≡ judged.Accepted n faulty) (table : List ℕ) {kept : List ℕ} (enough : 2_048 ≤ length table)
-        (is-kept : kept ≡ keptFrom table 0 (ordersRead profile file)) (as-long : length kept ≡ length table) where
+  -- the records of a file whose header has passed
+  module _ (headed : statedOf profile file .verdict ≡ Passed) {records : Records} (are-records : records ≡ recordsBehind profile file) where
+    is-result : records .judged ≡ judgedOf (contents profile file) (orders file)
+    is-result = ap (λ (all : Records). all .judged) are-records ∙ two-steps-are-contents .second-decides profile file headed
+
+    pub records-refused : {number : ℕ} → records .judged ≡ judged.Refused number
+        → DoesEnter (contents profile file) (entered profile name (orders file)) (length (orders file)) (faultyCount (orders file)) m (Refused number) m
+    records-refused {number} refused = contents-refused (refused-with (contents profile file) number (sym is-result ∙ refused))
+
+    module _ {n faulty : ℕ} (accepted : records .judged ≡ judged.Accepted n faulty) where
+      abbrev kept : List ℕ
+      kept = records .kept
+
       passed : (contents profile file ≡ Passed) × ((n ≡ length (orders file)) × (faulty ≡ faultyCount (orders file)))
       passed = passed-or-not (contents profile file) n faulty (sym is-result ∙ accepted)
 
       in-range : EachInRange (orders file)
       in-range = accepted-as-stated profile file (passed .0) .in-range
 
+      are-kept : kept ≡ keptFrom noneKept 0 (orders file)
+      are-kept = ap (λ (all : Records). all .kept) are-records ∙ two-steps-are-contents .accepted-kept profile file (passed .0)
+
       -- the orders are in the table, if they are no more than a book has rows
       in-table : n ≤ 2_048 → ordersIn kept 0 n ≡ orders file
       in-table few =
           let all = passed .1 .0 in
-          rw (is-kept, accepted-is-read profile file (passed .0), all) (kept-in-order table (orders file) in-range (omega arith))
+          rw (are-kept, all) (kept-in-order noneKept (orders file) in-range (omega (arith, length-replicate {A = ℕ} 2_048 0)))
 
       pub counted : Counted n kept
-      counted = record { enough = omega arith; in-range = λ few. rw (in-table few) in-range }
+      counted = record { in-range = λ few. rw (in-table few) in-range }
 
       entered-alike : enteredIn (of-orders (orders file)) n faulty (bookIn m) ≡ enteredIn (of-orders (ordersIn kept 0 n)) n faulty (bookIn m)
       entered-alike =

@@ -6,7 +6,6 @@ pub mod Finding
 pub mod Changing
 pub mod Calls
 pub mod Acting
-pub mod HeadFields
 pub mod Orders
 pub mod Returns
 pub mod HeadActs

@@ -10,6 +10,9 @@ use lib.Dec.{leb, ltb}
 use lib.ListN.{getD}
 use Rattle.text.proofs.Branches.{either-way}
 use Rattle.money.specs.declared.Money.the-variants.{K, O}
+use Rattle.money.specs.Money.{amount, fee}
+use Rattle.money.specs.declared.Amount.{Amount}
+use Rattle.money.specs.declared.Fee.{Fee}
 use Rattle.model.specs.Shipment.{Shipment, isWaiting, need, sumOver, anyFaulty}
 use Rattle.model.specs.Sound.{rowsSound}
 use Rattle.model.specs.declared.Row.{Row}
@@ -19,10 +22,9 @@ use Rattle.model.proofs.SoundParts.{in-order}
 use Rattle.memory.specs.Number.{numberAt}
 use Rattle.memory.specs.Layout.{headBytes}
 use Rattle.memory.specs.Heads.{stageOf, shipmentIn}
-use Rattle.memory.specs.Read.{rowsFrom, ordersAt, shipmentAt}
+use Rattle.memory.specs.Read.{rowsFrom, ordersAt, shipmentAt, Sits}
 use Rattle.sound.proofs.ReadLaws.{rows-many}
-use Rattle.book.specs.Place.{Sits}
-use Rattle.book.proofs.HeadFields.{orders-are, fee-is, waiting-is}
+use Rattle.memory.proofs.HeadFields.{orders-are, fee-is, waiting-is}
 
 -- nothing is missing of a need that is covered
 pub covered-is : (needed accepted : ℕ) → leb needed accepted ≡ not (ltb 0 (needed - accepted))
@@ -57,16 +59,16 @@ module _ (m : List ℕ) (i k : ℕ) (sits : Sits m i k) {head : List ℕ} (is-he
   unfolding need shipmentIn
   fees-are = ap (λ fee. n * fee) (fee-is m i k is-head) ∙ ap (λ count. count * s .fee) (count-is ∙ sym (rows-many m k (ordersAt m i)))
 
-  pub need-in-fees : {fees : ℕ} → fees ≡ n * numberAt 4 head 24 → fees ≡ need O s
-  need-in-fees are = are ∙ fees-are
+  pub need-in-fees : {fees : Fee} → fees ≡ fee (n * numberAt 4 head 24) → fees .0 ≡ need O s
+  need-in-fees are = ap (λ (all : Fee). all .0) are ∙ fees-are
 
   rows-are : rowsFrom m k n ≡ s .rows
   unfolding shipmentIn
   rows-are = ap (rowsFrom m k) count-is
 
-  pub need-in-amounts : {amounts : ℕ} → amounts ≡ sumOver (λ (row : Row). row .amount .0) (rowsFrom m k n) → amounts ≡ need K s
+  pub need-in-amounts : {amounts : Amount} → amounts ≡ amount (sumOver (λ (row : Row). row .amount .0) (rowsFrom m k n)) → amounts .0 ≡ need K s
   unfolding need
-  need-in-amounts are = are ∙ ap (sumOver (λ (row : Row). row .amount .0)) rows-are
+  need-in-amounts are = ap (λ (all : Amount). all .0) are ∙ ap (sumOver (λ (row : Row). row .amount .0)) rows-are
 
   pub faulty-is : anyFaulty (rowsFrom m k n) ≡ anyFaulty (s .rows)
   faulty-is = ap anyFaulty rows-are

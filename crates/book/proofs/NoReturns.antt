@@ -18,7 +18,7 @@ use Rattle.book.specs.NoReturn.{noReturn}
 use Rattle.book.specs.Place.{calledIn, placeFrom, placeIn}
 use Rattle.book.proofs.Finding.{Found, here, further}
 use Rattle.book.proofs.Calls.{unsound-place, unknown-place, at-place}
-use Rattle.book.proofs.HeadFields.{paired-is}
+use Rattle.memory.proofs.HeadFields.{paired-is}
 
 module _ (ident : Ident) (m : List ℕ) where
   by-head : (i k : ℕ) → isCalled ident (shipmentAt m i k) ≡ calledIn ident (headBytes m i)

@@ -13,7 +13,7 @@ use Rattle.text.proofs.Branches.{and-left, and-right}
 use Rattle.money.specs.declared.Amount.{Amount}
 use Rattle.money.specs.declared.Fee.{Fee}
 use Rattle.model.specs.Shipment.{Shipment, isPaired}
-use Rattle.model.specs.Calls.{FeeEarned, Refused, isRefusal, leave, withRows, withState, fits, becomes, says, noOrder, orderAt, onOrder}
+use Rattle.model.specs.Calls.{FeeEarned, Refused, changesNothing, leave, withRows, withState, fits, becomes, says, noOrder, orderAt, onOrder}
 use Rattle.model.specs.Sound.{faultInRange}
 use Rattle.model.specs.declared.Deed.{Deed}
 use Rattle.model.specs.declared.Deed.the-variants.{Post, Pay, MarkUndelivered, Withdraw}
@@ -22,15 +22,15 @@ use Rattle.memory.specs.Number.{numberAt}
 use Rattle.memory.specs.Layout.{headBytes, rowBytes}
 use Rattle.memory.specs.Rows.{rowOf, codeOf, withCodeAt}
 use Rattle.memory.specs.Heads.{stageOf, shipmentIn}
-use Rattle.memory.specs.Read.{rowsFrom, ordersAt, shipmentAt}
+use Rattle.memory.specs.Read.{rowsFrom, ordersAt, shipmentAt, Sits}
 use Rattle.memory.proofs.RowLaws.{state-is-read-back, code-stored}
 use Rattle.sound.proofs.ReadLaws.{rows-many}
 use Rattle.book.specs.Answers.{handlingOf}
-use Rattle.book.specs.Place.{Sits, ActAt}
+use Rattle.book.specs.Place.{ActAt}
 use Rattle.book.specs.declared.order.Handling.the-variants.{Handled}
 use Rattle.book.proofs.Frames.{row-of-shipment}
 use Rattle.book.proofs.RowLaws.{row-at, rows-set}
-use Rattle.book.proofs.HeadFields.{orders-are, fee-is, paired-is}
+use Rattle.memory.proofs.HeadFields.{orders-are, fee-is, paired-is}
 use Rattle.book.proofs.Acting.{ask-yes, ask-no, refused-at, rows-changed}
 
 becomes-in-range : (deed : Deed) → faultInRange (becomes deed) ≡ true
@@ -39,7 +39,7 @@ becomes-in-range Pay = refl
 becomes-in-range MarkUndelivered = refl
 becomes-in-range Withdraw = refl
 
-handled-taken : (deed : Deed) (fee : Fee) (amount : Amount) → isRefusal (handlingOf deed (Handled fee amount)) ≡ false
+handled-taken : (deed : Deed) (fee : Fee) (amount : Amount) → changesNothing (handlingOf deed (Handled fee amount)) ≡ false
 handled-taken Post fee amount = refl
 handled-taken Pay fee amount = refl
 handled-taken MarkUndelivered fee amount = refl

@@ -7,6 +7,9 @@ use Prim.Native.Nat.{ℕ, _+_, _*_, _-_}
 use lib.Dec.{leb, ltb}
 use lib.ListN.{getD, set}
 use Rattle.money.specs.declared.Money.the-variants.{K, O}
+use Rattle.money.specs.Money.{amount, fee}
+use Rattle.money.specs.declared.Amount.{Amount}
+use Rattle.money.specs.declared.Fee.{Fee}
 use Rattle.model.specs.Shipment.{Shipment, accepted, isWaiting, need, sumOver, anyFaulty}
 use Rattle.model.specs.Calls.{Refused, Done, IsPaired, Short, Outcome, leave, choose, goneAhead, paired}
 use Rattle.model.specs.declared.Row.{Row}
@@ -14,9 +17,9 @@ use Rattle.model.specs.declared.Stage.the-variants.{Paired}
 use Rattle.memory.specs.Number.{numberAt}
 use Rattle.memory.specs.Layout.{headAt, headBytes}
 use Rattle.memory.specs.Heads.{stageOf, stageByte, goAheadIn, acceptedAt}
-use Rattle.memory.specs.Read.{rowsFrom, shipmentAt}
-use Rattle.book.specs.Place.{Sits, ActAt}
-use Rattle.book.proofs.HeadFields.{waiting-is, go-ahead-is, accepted-is}
+use Rattle.memory.specs.Read.{rowsFrom, shipmentAt, Sits}
+use Rattle.book.specs.Place.{ActAt}
+use Rattle.memory.proofs.HeadFields.{waiting-is, go-ahead-is, accepted-is}
 use Rattle.book.proofs.Acting.{ask-yes, ask-no, left-at, refused-at}
 use Rattle.book.proofs.HeadActs.{stage-changed, go-ahead-changed}
 use Rattle.book.proofs.Needs.{covered-is, neither, need-in-fees, need-in-amounts, faulty-is}
@@ -87,16 +90,20 @@ module _ (m : List ℕ) (i k : ℕ) (sits : Sits m i k) {head : List ℕ} (is-he
         unfolding paired
         faults-at barred = refused-at (ask-yes _ 15 _ _ (waiting-test ∙ held) ∙ ask-no _ 18 _ _ (may-test ∙ barred))
 
-        module _ (free : may ≡ true) {amount fee amounts fees k-in o-in : ℕ} (is-amount : amount ≡ amounts - k-in) (is-fee : fee ≡ fees - o-in)
-            (are-amounts : amounts ≡ sumOver (λ (row : Row). row .amount .0) (rowsFrom m k n)) (are-fees : fees ≡ n * numberAt 4 head 24) (is-k-in : k-in ≡ numberAt 8 head (acceptedAt K)) (is-o-in : o-in ≡ numberAt 8 head (acceptedAt O))
-            {short : Bool} (is-short : short ≡ (ltb 0 amount || ltb 0 fee)) where
-          amount-is : amount ≡ need K s - accepted K s
+        module _ (free : may ≡ true) {missing-k amounts k-in : Amount} {missing-o fees o-in : Fee}
+            (is-missing-k : missing-k ≡ amount (amounts .0 - k-in .0)) (is-missing-o : missing-o ≡ fee (fees .0 - o-in .0))
+            (are-amounts : amounts ≡ amount (sumOver (λ (row : Row). row .amount .0) (rowsFrom m k n))) (are-fees : fees ≡ fee (n * numberAt 4 head 24))
+            (is-k-in : k-in ≡ amount (numberAt 8 head (acceptedAt K))) (is-o-in : o-in ≡ fee (numberAt 8 head (acceptedAt O)))
+            {short : Bool} (is-short : short ≡ (ltb 0 (missing-k .0) || ltb 0 (missing-o .0))) where
+          amount-is : missing-k .0 ≡ need K s - accepted K s
           amount-is =
-              is-amount
-              ∙ (λ t. need-in-amounts m i k sits is-head is-count are-amounts t - (is-k-in ∙ accepted-is m i k is-head K) t)
+              ap (λ (a : Amount). a .0) is-missing-k
+              ∙ (λ t. need-in-amounts m i k sits is-head is-count are-amounts t - (ap (λ (a : Amount). a .0) is-k-in ∙ accepted-is m i k is-head K) t)
 
-          fee-is : fee ≡ need O s - accepted O s
-          fee-is = is-fee ∙ (λ t. need-in-fees m i k sits is-head is-count are-fees t - (is-o-in ∙ accepted-is m i k is-head O) t)
+          fee-is : missing-o .0 ≡ need O s - accepted O s
+          fee-is =
+              ap (λ (a : Fee). a .0) is-missing-o
+              ∙ (λ t. need-in-fees m i k sits is-head is-count are-fees t - (ap (λ (a : Fee). a .0) is-o-in ∙ accepted-is m i k is-head O) t)
 
           covered-test : (leb (need K s) (accepted K s) && leb (need O s) (accepted O s)) ≡ not short
           covered-test =
@@ -104,7 +111,7 @@ module _ (m : List ℕ) (i k : ℕ) (sits : Sits m i k) {head : List ℕ} (is-he
               ∙ neither (ltb 0 (need K s - accepted K s)) (ltb 0 (need O s - accepted O s))
               ∙ ap not (sym (is-short ∙ (λ t. ltb 0 (amount-is t) || ltb 0 (fee-is t))))
 
-          pub short-at : short ≡ true → ActAt m i k paired (Short amount fee) m
+          pub short-at : short ≡ true → ActAt m i k paired (Short (missing-k .0) (missing-o .0)) m
           unfolding paired
           short-at some =
               left-at

@@ -9,27 +9,32 @@ use native.Mathlib.Numerals.{add-one}
 use native.Mathlib.Omega.{arith}
 use borrow.Author.Tests.{lt-ltb, leb-true, eqb-true, eqb-false}
 use lib.Dec.{ltb, eqb}
-use lib.ListN.{getD}
+use lib.ListN.{length, getD}
+use Rattle.money.specs.Money.{WithinSum, sumOf, groszeIn}
 use Rattle.money.specs.declared.Money.{Money}
 use Rattle.money.specs.declared.Money.the-variants.{K, O}
-use Rattle.model.specs.Shipment.{byMoney, Shipment, isPaired, onlyIf, sumOver, worth}
+use Rattle.money.specs.declared.Sum.{Sum}
+use Rattle.money.proofs.Sums.{grosze-is}
+use Rattle.model.specs.Shipment.{byMoney, Shipment, isPaired, onlyIf, sumOver, worth, need}
 use Rattle.model.specs.Calls.{Refused, Returned, leave, withRows, waitsOn, afterReturn, waiting, waitingOrders, isZprWithO, returnedBy}
 use Rattle.model.specs.Sound.{rowSound, rowsSound}
 use Rattle.model.specs.declared.Route.{Route}
 use Rattle.model.specs.declared.Row.{Row}
 use Rattle.model.specs.declared.Stage.{Stage}
+use Rattle.model.proofs.Shipments.{only-if-true}
 use Rattle.model.proofs.SoundParts.{halves, in-order}
 use Rattle.memory.specs.Number.{numberAt}
 use Rattle.memory.specs.Layout.{headBytes, rowBytes}
 use Rattle.memory.specs.Rows.{rowOf}
 use Rattle.memory.specs.Heads.{stageOf, shipmentIn}
-use Rattle.memory.specs.Read.{rowsFrom, ordersAt, shipmentAt}
-use Rattle.book.specs.Place.{Sits, ActAt}
-use Rattle.book.specs.Waits.{waitsOf, RowCleared, RowsReturned, Cleared}
+use Rattle.memory.specs.Read.{rowsFrom, ordersAt, shipmentAt, Sits}
+use Rattle.book.specs.Place.{ActAt}
+use Rattle.book.specs.Waits.{worthWaiting, ordersWaiting, RowCleared, RowsReturned, Cleared}
+use Rattle.book.specs.declared.route.Taken.{Taken}
 use Rattle.book.specs.declared.route.Waits.{Waits}
 use Rattle.book.proofs.Storing.{none-stored, one-more-stored}
 use Rattle.book.proofs.RowLaws.{rows-mapped}
-use Rattle.book.proofs.HeadFields.{orders-are, fee-is, paired-is}
+use Rattle.memory.proofs.HeadFields.{orders-are, fee-is, paired-is}
 use Rattle.book.proofs.Acting.{ask-yes, ask-no, refused-at, rows-changed}
 
 -- a wait is at most 2, and counts as often as it adds to the byte of state
@@ -38,6 +43,10 @@ twice-at-most n zero h = omega arith
 twice-at-most n (suc zero) h = omega arith
 twice-at-most n (suc (suc zero)) h = omega arith
 twice-at-most n (suc (suc (suc times))) h = absurd (omega arith)
+
+only-if-most : (t : Bool) (n : ℕ) → onlyIf t n ≤ n
+only-if-most true n = omega arith
+only-if-most false n = omega arith
 
 one-more-worth : (money : Money) (waits : Bool) (total n : ℕ)
     → total * byMoney money 1 2 + n * onlyIf waits (byMoney money 1 2) ≡ (total + onlyIf waits n) * byMoney money 1 2
@@ -69,21 +78,21 @@ module _ (m : List ℕ) (f : Row → ℕ) where
   sum-more k n = rw add-one (sym (sum-then k n))
 
 -- rows returned one after the other
-pub record Clearing (route : Route) (money : Money) (fee k n : ℕ) (m m′ : List ℕ) (taken : Waits) : Type 0 where
-  pub added : taken .sum ≡ waitsOf route money fee (rowsFrom m k n) .sum * byMoney money 1 2
-  pub counted : taken .count ≡ waitsOf route money fee (rowsFrom m k n) .count * byMoney money 1 2
+pub record Clearing (route : Route) (money : Money) (fee k n : ℕ) (m m′ : List ℕ) (taken : Taken) : Type 0 where
+  pub added : taken .worth ≡ worthWaiting route money fee (rowsFrom m k n) * byMoney money 1 2
+  pub counted : taken .count ≡ ordersWaiting route money (rowsFrom m k n) * byMoney money 1 2
   pub returned : RowsReturned route money k n m m′
   pub still : taken .count ≡ 0 → m′ ≡ m
 
 module _ {route : Route} {money : Money} {fee k : ℕ} where
-  pub none-cleared : {m : List ℕ} → Clearing route money fee k 0 m m (record { sum = 0; count = 0 })
+  pub none-cleared : {m : List ℕ} → Clearing route money fee k 0 m m (record { worth = 0; count = 0 })
   unfolding rowsFrom
   none-cleared = record { added = none; counted = none; returned = none-stored; still = λ h. refl }
     where
       none : 0 ≡ 0 * byMoney money 1 2
       none = omega arith
 
-  pub one-more-cleared : {n : ℕ} {l m m′ : List ℕ} {before after : Waits} → Clearing route money fee k n l m before
+  pub one-more-cleared : {n : ℕ} {l m m′ : List ℕ} {before after : Taken} → Clearing route money fee k n l m before
       → RowCleared route money fee (k + n) before m m′ after → Clearing route money fee k (n + 1) l m′ after
   one-more-cleared {n} {l} {m} {m′} {before} {after} rest one =
       let row-is = rest .returned .only 0 .other-rows (k + n) (inr (omega arith)) in
@@ -93,8 +102,8 @@ module _ {route : Route} {money : Money} {fee k : ℕ} where
       = one .row .took ∙ ap (λ bytes. onlyIf (waitsOn route money (rowOf bytes)) (byMoney money 1 2)) row-is in
       record {
         added = one .added
-            ∙ ap (λ bytes. before .sum + worth money fee (rowOf bytes) * one .taken) row-is
-            ∙ ap (λ n. before .sum + worth money fee row * n) took
+            ∙ ap (λ bytes. before .worth + worth money fee (rowOf bytes) * one .taken) row-is
+            ∙ ap (λ n. before .worth + worth money fee row * n) took
             ∙ ap (λ n. n + worth money fee row * onlyIf waits (byMoney money 1 2)) (rest .added)
             ∙ one-more-worth money waits _ (worth money fee row)
             ∙ ap (λ n. n * byMoney money 1 2) (sum-more l (λ row. onlyIf (waitsOn route money row) (worth money fee row)) k n);
@@ -110,25 +119,45 @@ module _ {route : Route} {money : Money} {fee k : ℕ} where
             one .row .still (omega arith) ∙ rest .still (omega arith);
       }
 
-  pub all-cleared : {n wait : ℕ} {m m′ : List ℕ} {taken : Waits} → Clearing route money fee k n m m′ taken → wait ≡ byMoney money 1 2
-      → Cleared route money fee k n m m′ (record { sum = taken .sum / wait; count = taken .count / wait })
-  all-cleared {n} {wait} {m} {m′} {taken} all wait-is =
-      let once : (x y : ℕ) → x ≡ y * byMoney money 1 2 → x / wait ≡ y
-      = λ x y is. ap (λ w. x / w) wait-is ∙ ap (λ x. x / byMoney money 1 2) is ∙ counted-once money y in
-      let sum-is = once (taken .sum) _ (all .added) in
-      let count-is = once (taken .count) _ (all .counted) in
-      record {
-        found = λ t. record { sum = sum-is t; count = count-is t };
-        returned = all .returned;
-        still = λ none. all .still (all .counted ∙ ap (λ n. n * byMoney money 1 2) (sym count-is ∙ none) ∙ nothing (byMoney money 1 2));
-      }
-    where
-      nothing : (n : ℕ) → 0 * n ≡ 0
-      nothing n = omega arith
+  module _ {n wait : ℕ} {m m′ : List ℕ} {taken : Taken} (all : Clearing route money fee k n m m′ taken) (wait-is : wait ≡ byMoney money 1 2) where
+    once : (x y : ℕ) → x ≡ y * byMoney money 1 2 → x / wait ≡ y
+    once x y is = ap (λ w. x / w) wait-is ∙ ap (λ x. x / byMoney money 1 2) is ∙ counted-once money y
+
+    pub worth-is : taken .worth / wait ≡ worthWaiting route money fee (rowsFrom m k n)
+    worth-is = once (taken .worth) _ (all .added)
+
+    count-is-once : taken .count / wait ≡ ordersWaiting route money (rowsFrom m k n)
+    count-is-once = once (taken .count) _ (all .counted)
+
+    nothing : (n : ℕ) → 0 * n ≡ 0
+    nothing n = omega arith
+
+    pub all-cleared : {sum : Sum} → sum ≡ sumOf money (taken .worth / wait)
+        → Cleared route money fee k n m m′ (record { sum = sum; count = taken .count / wait })
+    all-cleared sum-is = record {
+      sum = sum-is ∙ ap (sumOf money) worth-is;
+      count = count-is-once;
+      returned = all .returned;
+      still = λ none. all .still (all .counted ∙ ap (λ n. n * byMoney money 1 2) (sym count-is-once ∙ none) ∙ nothing (byMoney money 1 2));
+    }
+
+-- what waits is part of the need
+waits-below : (route : Route) (money : Money) (s : Shipment) → waiting route money s ≤ need money s
+unfolding waiting need
+waits-below route K s = by (s .rows)
+  where
+    by : (rows : List Row) → worthWaiting route K (s .fee) rows ≤ sumOver (λ (row : Row). row .amount .0) rows
+    by [] = omega arith
+    by (row ∷ rows) = let rest = by rows in let here = only-if-most (waitsOn route K row) (row .amount .0) in omega arith
+waits-below route O s = by (s .rows)
+  where
+    by : (rows : List Row) → worthWaiting route O (s .fee) rows ≤ length rows * s .fee
+    by [] = omega arith
+    by (row ∷ rows) = let rest = by rows in let here = only-if-most (waitsOn route O row) (s .fee) in omega arith
 
 -- an order that waits is worth something, so that where nothing waits no order does
 module _ (route : Route) where
-  worthless : (money : Money) (fee : ℕ) (rows : List Row) → byMoney money false (eqb fee 0) ≡ true → waitsOf route money fee rows .sum ≡ 0
+  worthless : (money : Money) (fee : ℕ) (rows : List Row) → byMoney money false (eqb fee 0) ≡ true → worthWaiting route money fee rows ≡ 0
   worthless K fee rows h = absurd (false≢true h)
   worthless O fee [] h = refl
   worthless O fee (row ∷ rows) h =
@@ -149,7 +178,7 @@ module _ (route : Route) where
         by K h = leb-true 1 (row .amount .0) (search halves)
         by O h = let some = eqb-false fee 0 h in omega arith
 
-    unwaited : (rows : List Row) → rowsSound stage rows ≡ true → waitsOf route money fee rows .sum ≡ 0 → waitsOf route money fee rows .count ≡ 0
+    unwaited : (rows : List Row) → rowsSound stage rows ≡ true → worthWaiting route money fee rows ≡ 0 → ordersWaiting route money rows ≡ 0
     unfolding rowsSound
     unwaited [] sound none = refl
     unwaited (row ∷ rows) sound none =
@@ -208,33 +237,36 @@ module _ (m : List ℕ) (i k : ℕ) {head : List ℕ} (is-head : head ≡ headBy
           unfolding waiting
           worthless-at h = nothing-to-return (worthless route money (s .fee) (s .rows) (worth-there ∙ h))
 
+          pub waiting-within : {n : ℕ} → n ≡ numberAt 2 head 30 → Sits m i k → WithinSum (worthWaiting route money fee (rowsFrom m k n))
+          unfolding waiting shipmentIn
+          waiting-within is-count sits =
+              let moneys = in-order s (sits .sound) .moneys money in
+              let all-needed = only-if-true (isPaired (s .stage)) (need money s) (paired-test ∙ held) in
+              rw (count-is is-count, fee-there) (omega (arith, waits-below route money s, all-needed, moneys .covered, moneys .accepted-fits))
+
           module _ (worth-it : worth-nothing ≡ false) {n : ℕ} (is-count : n ≡ numberAt 2 head 30) (sits : Sits m i k)
               {m′ : List ℕ} {found : Waits} (cleared : Cleared route money fee k n m m′ found) where
-            found-is : found ≡ waitsOf route money (s .fee) (s .rows)
-            unfolding shipmentIn
-            found-is = cleared .found ∙ rw (count-is is-count, fee-there)
-
-            sum-is : waiting route money s ≡ found .sum
-            unfolding waiting
-            sum-is = sym (ap (λ (waiting : Waits). waiting .sum) found-is)
+            sum-is : waiting route money s ≡ groszeIn (found .sum)
+            unfolding waiting shipmentIn
+            sum-is = sym (grosze-is money _ (cleared .sum) ∙ rw (count-is is-count, fee-there))
 
             orders-waiting-are : waitingOrders route money s ≡ found .count
-            unfolding waitingOrders
-            orders-waiting-are = sym (ap (λ (waiting : Waits). waiting .count) found-is)
+            unfolding waitingOrders shipmentIn
+            orders-waiting-are = sym (cleared .count ∙ rw (count-is is-count))
 
-            pub nothing-at : found .sum ≡ 0 → ActAt m i k (returnedBy route money) (Refused 23) m′
+            pub nothing-at : groszeIn (found .sum) ≡ 0 → ActAt m i k (returnedBy route money) (Refused 23) m′
             unfolding waiting waitingOrders
             nothing-at nothing =
                 let sound = in-order s (sits .sound) .rows-sound in
                 let no-order = unwaited route money (s .fee) (s .stage) (worth-there ∙ worth-it) (s .rows) sound (sum-is ∙ nothing) in
                 rw (cleared .still (sym orders-waiting-are ∙ no-order)) (nothing-to-return (sum-is ∙ nothing))
 
-            pub returned-at : 0 < found .sum → ActAt m i k (returnedBy route money) (Returned (found .sum) (found .count)) m′
+            pub returned-at : 0 < groszeIn (found .sum) → ActAt m i k (returnedBy route money) (Returned (groszeIn (found .sum)) (found .count)) m′
             unfolding returnedBy shipmentIn
             returned-at some =
                 let all : RowsReturned route money k (ordersAt m i) m _ = rw (count-is is-count) at (cleared .returned) in
                 rows-changed refl (all .only i) (all .heads i (sits .few)) (rows-mapped m _ (afterReturn route money) k (ordersAt m i) (all .rows))
                 (ask-yes _ 19 _ _ (paired-test ∙ held)
                 ∙ ask-yes _ 22 _ _ (ap not (sym is-barred ∙ free))
-                ∙ ask-yes _ 23 _ _ (ap (ltb 0) sum-is ∙ lt-ltb 0 (found .sum) some)
+                ∙ ask-yes _ 23 _ _ (ap (ltb 0) sum-is ∙ lt-ltb 0 (groszeIn (found .sum)) some)
                 ∙ ap (λ answer. leave answer (withRows (map (afterReturn route money) (s .rows)) s)) (λ t. Returned (sum-is t) (orders-waiting-are t)))

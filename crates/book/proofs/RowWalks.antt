@@ -10,7 +10,8 @@ use lib.Bits.{bitOr, or-mod, or-add-and, and-le-l, and-le-r}
 use lib.Dec.{ltb}
 use Rattle.text.specs.Bytes.{between}
 use Rattle.text.proofs.Branches.{and-left, and-right, either-way}
-use Rattle.money.specs.Money.{orderCap}
+use Rattle.money.specs.Money.{orderCap, WithinSum}
+use Rattle.money.specs.declared.Amount.{Amount}
 use Rattle.model.specs.Shipment.{sumOver, isFaulty, anyFaulty}
 use Rattle.model.specs.Sound.{faultInRange, beforePairing, rowSound, rowsSound}
 use Rattle.model.specs.declared.Row.{Row}
@@ -64,14 +65,19 @@ module _ {m : List ℕ} {k n : ℕ} where
   looking-begun sound = record { place = refl; sound = sound; faults = refl }
 
   module _ {total i left : ℕ} (going : Adding m k n total i left) where
-    pub adding-on : {row : List ℕ} {amount : ℕ} → 0 < left → row ≡ rowBytes m i → amount ≡ rowOf row .amount .0 → amount < 2 ^ 32
-        → Adding m k n (total + amount) (i + 1) (left - 1)
-    adding-on {row} {amount} more row-is amount-is amount-low =
-        let there : amount ≡ amountIn (rowOf (rowBytes m i)) = amount-is ∙ ap (λ bytes. amountIn (rowOf bytes)) row-is in
+    pub adding-on : {row : List ℕ} {amount next : Amount} → 0 < left → row ≡ rowBytes m i → amount ≡ rowOf row .amount → amount .0 < 2 ^ 32
+        → next ≡ record { 0 = total + amount .0 } → Adding m k n (next .0) (i + 1) (left - 1)
+    adding-on {row} {amount} {next} more row-is amount-is amount-low next-is =
+        let there : amount .0 ≡ amountIn (rowOf (rowBytes m i)) = ap (λ (a : Amount). a .0) amount-is ∙ ap (λ bytes. amountIn (rowOf bytes)) row-is in
+        let grown : next .0 ≡ total + amount .0 = ap (λ (a : Amount). a .0) next-is in
         record { place = omega arith; amounts = omega (arith, ap (sumOver amountIn) (rows-on m i left more)); low = omega arith }
 
     pub adding-done : left ≤ 0 → total ≡ sumOver amountIn (rowsFrom m k n)
     adding-done done = omega (arith, ap (sumOver amountIn) (rows-done m i left done))
+
+    -- so many amounts of four bytes each are a sum
+    pub adding-within : n ≤ 2_048 → WithinSum total
+    adding-within few = omega arith
 
   module _ {bits i left : ℕ} (going : Looking m k n bits i left) where
     abbrev found : Bool

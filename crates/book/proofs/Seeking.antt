@@ -6,7 +6,7 @@ use mathlib.Core.List.{List, [], _∷_}
 use Prim.Native.Nat.{ℕ}
 use Rattle.text.specs.Bytes.{between}
 use Rattle.text.proofs.Branches.{either-way}
-use Rattle.money.specs.Money.{sumCap}
+use Rattle.money.specs.Money.{isTransfer}
 use Rattle.epe.specs.Questions.{Question, firstNo, isPassed}
 use Rattle.epe.specs.Name.{titleQuestions, titleOf}
 use Rattle.epe.specs.declared.ident.Ident.{Ident}
@@ -42,11 +42,11 @@ module _ (title : List ℕ) (amount : ℕ) where
   unfolding step transferredIn unlessRefused titleOf
   title-refused untitled book = rw (refused-eleven title untitled)
 
-  pub amount-refused : isPassed (titleOf title .verdict) ≡ true → between 1 sumCap amount ≡ false → (book : Book) → step book (Transfer title amount) ≡ stay (Refused 12) book
+  pub amount-refused : isPassed (titleOf title .verdict) ≡ true → isTransfer amount ≡ false → (book : Book) → step book (Transfer title amount) ≡ stay (Refused 12) book
   unfolding step transferredIn unlessRefused inquire
   amount-refused titled outside book = rw (passed-is (titleOf title .verdict) titled, outside)
 
-  pub seeks-named : isPassed (titleOf title .verdict) ≡ true → between 1 sumCap amount ≡ true
+  pub seeks-named : isPassed (titleOf title .verdict) ≡ true → isTransfer amount ≡ true
       → Seeks (namedIn (titleOf title .name)) (transferred (titleOf title .money) amount) (Transfer title amount)
   unfolding step transferredIn unlessRefused inquire shipmentIn
   seeks-named titled within = record {

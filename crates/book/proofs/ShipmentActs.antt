@@ -1,24 +1,23 @@
 -- A transfer, a go-ahead, pairing and closing, at the place of a shipment.
 -- Assumes nothing.
-use mathlib.Core.Path.{_≡_, refl, sym, _∙_}
+use mathlib.Core.Path.{_≡_, refl, sym, ap, _∙_}
 use mathlib.Core.Bool.{Bool, true, false}
 use mathlib.Core.List.{List}
 use Prim.Native.Nat.{ℕ, _+_, _≤_, _<_}
 use native.Mathlib.Omega.{arith}
-use borrow.Author.Tests.{le-leb, lt-leb}
+use borrow.Author.Tests.{leb-true}
 use lib.ListN.{getD, set}
-use Rattle.money.specs.Money.{sumCap}
+use Rattle.money.specs.Money.{sumCap, isSum}
 use Rattle.money.specs.declared.Money.{Money}
 use Rattle.model.specs.Shipment.{Shipment, accepted, isWaiting}
 use Rattle.model.specs.Calls.{Refused, Done, transferred, closed}
 use Rattle.model.specs.declared.Stage.the-variants.{Closed}
-use Rattle.model.proofs.SoundParts.{in-order}
 use Rattle.memory.specs.Number.{numberAt, withNumber}
 use Rattle.memory.specs.Layout.{headAt, headBytes}
 use Rattle.memory.specs.Heads.{stageOf, stageByte, acceptedAt}
-use Rattle.memory.specs.Read.{shipmentAt}
-use Rattle.book.specs.Place.{Sits, ActAt}
-use Rattle.book.proofs.HeadFields.{waiting-is, accepted-is}
+use Rattle.memory.specs.Read.{shipmentAt, Sits}
+use Rattle.book.specs.Place.{ActAt}
+use Rattle.memory.proofs.HeadFields.{waiting-is, accepted-is}
 use Rattle.book.proofs.Acting.{ask-yes, ask-no, refused-at}
 use Rattle.book.proofs.HeadActs.{stage-changed, accepted-changed}
 
@@ -31,20 +30,19 @@ module _ (m : List ℕ) (i k : ℕ) (sits : Sits m i k) {head : List ℕ} (is-he
     before-is : before ≡ accepted money s
     before-is = is-before ∙ accepted-is m i k is-head money
 
-    pub before-fits : before ≤ sumCap
-    before-fits = omega (arith, before-is, in-order s (sits .sound) .moneys money .accepted-fits)
+    total-is : isSum (accepted money s + amount) ≡ isSum (before + amount)
+    total-is = ap (λ n. isSum (n + amount)) (sym before-is)
 
-    pub too-much-at : sumCap < before + amount → ActAt m i k (transferred money amount) (Refused 14) m
+    pub too-much-at : isSum (before + amount) ≡ false → ActAt m i k (transferred money amount) (Refused 14) m
     unfolding transferred
-    too-much-at over = refused-at (ask-no _ 14 _ _ (lt-leb (accepted money s + amount) sumCap (omega (arith, before-is))))
+    too-much-at over = refused-at (ask-no _ 14 _ _ (total-is ∙ over))
 
-    pub transferred-at : before + amount ≤ sumCap
+    pub transferred-at : isSum (before + amount) ≡ true
         → ActAt m i k (transferred money amount) Done (withNumber 8 m (headAt i + acceptedAt money) (before + amount))
     unfolding transferred
     transferred-at within =
-        rw before-is
-        (accepted-changed sits refl money amount (omega (arith, before-is))
-        (ask-yes _ 14 _ _ (le-leb (accepted money s + amount) sumCap (omega (arith, before-is)))))
+        let low = leb-true (before + amount) sumCap within in
+        rw before-is (accepted-changed sits refl money amount (omega (arith, before-is)) (ask-yes _ 14 _ _ (total-is ∙ within)))
 
   -- "Waiting? 15"
   module _ {waiting : Bool} (is-waiting : waiting ≡ isWaiting (stageOf (getD head 28 0))) where

@@ -9,15 +9,16 @@ use borrow.Author.Tests.{lt-ltb}
 use lib.Dec.{ltb}
 use lib.ListN.{getD}
 use Rattle.money.specs.declared.Money.{Money}
+use Rattle.money.specs.Money.{WithinSum}
 use Rattle.model.specs.Shipment.{Shipment, accepted, returned, isWaiting, isPaired, onlyIf, need, needOncePaired, free}
 use Rattle.model.specs.Calls.{Refused, Returned, surplusReturned}
 use Rattle.model.proofs.SoundParts.{in-order}
 use Rattle.memory.specs.Number.{numberAt, withNumber}
 use Rattle.memory.specs.Layout.{headAt, headBytes}
 use Rattle.memory.specs.Heads.{stageOf, acceptedAt, returnedAt}
-use Rattle.memory.specs.Read.{shipmentAt}
-use Rattle.book.specs.Place.{Sits, ActAt}
-use Rattle.book.proofs.HeadFields.{waiting-is, paired-is, accepted-is, returned-is}
+use Rattle.memory.specs.Read.{shipmentAt, Sits}
+use Rattle.book.specs.Place.{ActAt}
+use Rattle.memory.proofs.HeadFields.{waiting-is, paired-is, accepted-is, returned-is}
 use Rattle.book.proofs.Acting.{ask-yes, ask-no, refused-at}
 use Rattle.book.proofs.HeadActs.{returned-changed}
 
@@ -74,7 +75,7 @@ module _ (m : List ℕ) (i k : ℕ) (sits : Sits m i k) {head : List ℕ} (is-he
         before-is : gone ≡ returned money s
         before-is = is-gone ∙ returned-is m i k is-head money
 
-        pub fits-at : gone + surplus ≤ 9_999_999_999_999
+        pub fits-at : WithinSum (gone + surplus)
         unfolding free
         fits-at =
             let moneys = in-order s (sits .sound) .moneys money in

@@ -6,7 +6,7 @@ use mathlib.Core.Option.{some, none}
 use Prim.Native.Nat.{ℕ, _≤_, _<_}
 use lib.ListN.{length, getD}
 use Rattle.epe.specs.Profile.{profileFits}
-use Rattle.model.specs.Calls.{Call, Intake, Transfer, On, Answer, Refused, Done, isRefusal}
+use Rattle.model.specs.Calls.{Call, Intake, Transfer, On, Answer, Refused, Done, changesNothing}
 use Rattle.model.specs.Book.{Book, step}
 use Rattle.memory.specs.Layout.{size}
 use Rattle.memory.specs.Read.{readBook}
@@ -22,8 +22,8 @@ pub record Does (before : List ℕ) (call : Call) (answer : Answer) (after : Lis
   -- of a sound book, the answer and the book after are those of document 01's book
   pub answers : (book : Book) → readBook before ≡ some book → answer ≡ step book call .answer
   pub leaves : (book : Book) → readBook before ≡ some book → readBook after ≡ some (step book call .book)
-  -- "A refusal leaves the book and every lent table as they stood."
-  pub refused : isRefusal answer ≡ true → after ≡ before
+  -- "A refusal leaves the book and every lent table as they stood before it", and "Short changes nothing": not a byte
+  pub unmoved : changesNothing answer ≡ true → after ≡ before
   -- memory behind the book is not touched
   pub behind : (j : ℕ) → size ≤ j → getD after j 0 ≡ getD before j 0
   pub as-long : length after ≡ length before

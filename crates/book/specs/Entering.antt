@@ -29,7 +29,6 @@ pub record Fits (m : List ℕ) (i k : ℕ) (name : Name) (fee n : ℕ) (kept : L
   pub few : i < 32
   pub from : k ≡ rowsIn (bookIn m)
   pub room : k + n ≤ 2_048
-  pub all : n ≤ length kept
   pub in-range : EachInRange (ordersIn kept 0 n)
   pub in-form : nameInForm name ≡ true
   pub fee-fits : fee < 2 ^ 32
@@ -57,7 +56,6 @@ pub record Opened (m : List ℕ) (i : ℕ) (name : Name) (fee : ℕ) : Type 0 wh
 
 -- Its contents passed: a table keeps its n orders, each in range, unless they are more than a book has rows.
 pub record Counted (n : ℕ) (kept : List ℕ) : Type 0 where
-  pub enough : 2_048 ≤ length kept
   pub in-range : n ≤ 2_048 → EachInRange (ordersIn kept 0 n)
 
 -- What an intake promises that has come so far: its contents decide, then the room.

@@ -9,7 +9,7 @@ use Rattle.epe.specs.Ident.{sameIdent}
 use Rattle.epe.specs.declared.ident.Ident.{Ident}
 use Rattle.epe.specs.declared.name.Name.{Name}
 use Rattle.model.specs.Shipment.{Shipment}
-use Rattle.model.specs.Calls.{Call, Answer, Refused, isRefusal, Outcome}
+use Rattle.model.specs.Calls.{Call, Answer, Refused, changesNothing, Outcome}
 use Rattle.model.specs.Book.{Book, onFirst, sameName, step}
 use Rattle.model.specs.Sound.{shipmentSound}
 use Rattle.model.specs.declared.Row.{Row}
@@ -36,13 +36,6 @@ placeFrom is m i k (suc n) = cond (is (headBytes m i)) (At i k) (placeFrom is m 
 unfoldable pub placeIn : (List ℕ → Bool) → List ℕ → Place
 placeIn is m = cond (soundIn m) (placeFrom is m 0 0 (shipmentsIn m)) Unsound
 
--- A shipment's place in a sound book: head i, its rows from the k-th on.
-pub record Sits (m : List ℕ) (i k : ℕ) : Type 0 where
-  pub enough : size ≤ length m
-  pub few : i < 32
-  pub room : k + ordersAt m i ≤ 2_048
-  pub sound : shipmentSound (shipmentAt m i k) ≡ true
-
 -- m′ is m but for head i and the n rows from the k-th on.
 pub record OnlyShipment (i k n : ℕ) (m m′ : List ℕ) : Type 0 where
   pub shipments : getD m′ 0 0 ≡ getD m 0 0
@@ -64,7 +57,7 @@ pub record ActAt (m : List ℕ) (i k : ℕ) (does : Shipment → Outcome) (answe
   pub only : OnlyShipment i k (ordersAt m i) m m′
   pub orders : ordersAt m′ i ≡ ordersAt m i
   pub flags : flagsInForm (headBytes m i) ≡ true → flagsInForm (headBytes m′ i) ≡ true
-  pub refused : isRefusal answer ≡ true → m′ ≡ m
+  pub unmoved : changesNothing answer ≡ true → m′ ≡ m
 
 -- A call that acts on the first shipment that passes a test, which its head decides.
 pub record Seeks (is : List ℕ → Bool) (does : Shipment → Outcome) (call : Call) : Type 0 where

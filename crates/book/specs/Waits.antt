@@ -2,6 +2,7 @@
 use mathlib.Core.Path.{_≡_}
 use mathlib.Core.List.{List}
 use Prim.Native.Nat.{ℕ, _+_, _*_}
+use Rattle.money.specs.Money.{sumOf}
 use Rattle.money.specs.declared.Money.{Money}
 use Rattle.model.specs.Shipment.{onlyIf, sumOver, worth}
 use Rattle.model.specs.Calls.{waitsOn, afterReturn}
@@ -10,20 +11,21 @@ use Rattle.model.specs.declared.Row.{Row}
 use Rattle.memory.specs.Layout.{rowBytes}
 use Rattle.memory.specs.Rows.{rowOf, RowReturned}
 use Rattle.memory.specs.Read.{rowsFrom}
+use Rattle.book.specs.declared.route.Taken.{Taken}
 use Rattle.book.specs.declared.route.Waits.{Waits}
 use Rattle.book.specs.Place.{RowsStored}
 
-abbrev pub waitsOf : Route → Money → ℕ → List Row → Waits
-waitsOf route money fee rows = record {
-  sum = sumOver (λ (row : Row). onlyIf (waitsOn route money row) (worth money fee row)) rows;
-  count = sumOver (λ (row : Row). onlyIf (waitsOn route money row) 1) rows;
-}
+abbrev pub worthWaiting : Route → Money → ℕ → List Row → ℕ
+worthWaiting route money fee rows = sumOver (λ (row : Row). onlyIf (waitsOn route money row) (worth money fee row)) rows
+
+abbrev pub ordersWaiting : Route → Money → List Row → ℕ
+ordersWaiting route money rows = sumOver (λ (row : Row). onlyIf (waitsOn route money row) 1) rows
 
 -- Row k is as a return leaves it. What was taken from its byte of state is counted, and as many times the order's worth added up.
-pub record RowCleared (route : Route) (money : Money) (fee k : ℕ) (before : Waits) (m m′ : List ℕ) (after : Waits) : Type 0 where
+pub record RowCleared (route : Route) (money : Money) (fee k : ℕ) (before : Taken) (m m′ : List ℕ) (after : Taken) : Type 0 where
   pub taken : ℕ
   pub row : RowReturned route money k m m′ taken
-  pub added : after .sum ≡ before .sum + worth money fee (rowOf (rowBytes m k)) * taken
+  pub added : after .worth ≡ before .worth + worth money fee (rowOf (rowBytes m k)) * taken
   pub counted : after .count ≡ before .count + taken
 
 -- Each of n rows from the k-th on is as a return leaves it, and nothing else moves.
@@ -32,6 +34,7 @@ RowsReturned route money k n m m′ = RowsStored (λ r. afterReturn route money 
 
 -- And what waited in them is found. Where it was of no order, no byte moves.
 pub record Cleared (route : Route) (money : Money) (fee k n : ℕ) (m m′ : List ℕ) (waited : Waits) : Type 0 where
-  pub found : waited ≡ waitsOf route money fee (rowsFrom m k n)
+  pub sum : waited .sum ≡ sumOf money (worthWaiting route money fee (rowsFrom m k n))
+  pub count : waited .count ≡ ordersWaiting route money (rowsFrom m k n)
   pub returned : RowsReturned route money k n m m′
   pub still : waited .count ≡ 0 → m′ ≡ m

@@ -4,7 +4,9 @@ use crate::place::Place;
 use crate::place::find_called;
 use crate::refusals;
 use epe::file::Judged;
-use epe::file::judge_contents;
+use epe::file::Stated;
+use epe::file::judge_records;
+use epe::file::judge_stated;
 use epe::file::open;
 use epe::ident::Ident;
 use epe::kept::order_in;
@@ -17,19 +19,21 @@ use memory::head::head_bytes;
 use memory::head::orders;
 use memory::shipments;
 use memory::store_shipments;
+use money::Fee;
 ghost use mathlib.Core.Path.{_≡_};
 ghost use mathlib.Core.Bool.{true};
 ghost use mathlib.Core.List.{map};
 ghost use Prim.Native.Nat.{_+_, _≤_, _<_, _^_};
-ghost use lib.ListN.{length, getD};
+ghost use lib.ListN.{length};
 ghost use Rattle.epe.specs.Name.{nameInForm};
 ghost use Rattle.epe.specs.Profile.{profileFits};
 ghost use Rattle.epe.specs.Contents.{contents, orders, faultyCount};
+ghost use Rattle.epe.specs.Steps.{statedOf};
 ghost use Rattle.epe.specs.Accepted.{EachInRange};
 ghost use Rattle.epe.specs.Kept.{ordersIn};
 ghost use Rattle.epe.specs.declared.verdict.Verdict.the-variants.{Passed};
 ghost use Rattle.model.specs.Calls.{Intake};
-ghost use Rattle.model.specs.Book.{isUnknown, rowsIn, enteredRow, newShipment, entered};
+ghost use Rattle.model.specs.Book.{feeFor, isUnknown, rowsIn, enteredRow, newShipment, entered};
 ghost use Rattle.memory.specs.Layout.{size};
 ghost use Rattle.memory.specs.Read.{shipmentsFrom, shipmentsIn, soundIn};
 ghost use Rattle.book.specs.Answers.{acceptanceOf};
@@ -67,7 +71,7 @@ fn is_unknown(memory: &[u8], ident: Ident, n: usize) -> bool
 
 // Enters the first n orders that a table keeps, in the rows from the k-th on.
 fn enter_orders(memory: &mut [u8], k: usize, n: usize, kept: &[u64])
-    requires { ⌜ (k + n ≤ 2_048) × (size ≤ length (now memory)) × (n ≤ length (now kept)) × EachInRange (ordersIn (now kept) 0 n) ⌝ }
+    requires { ⌜ (k + n ≤ 2_048) × (size ≤ length (now memory)) × EachInRange (ordersIn (now kept) 0 n) ⌝ }
     ensures { λ _. ⌜ RowsStored (keptRow k (now (kept .entry))) k n (now (memory .entry)) (now (memory .exit)) ⌝ }
 {
     for done in 0..n {
@@ -76,9 +80,9 @@ fn enter_orders(memory: &mut [u8], k: usize, n: usize, kept: &[u64])
 }
 
 // Enters a shipment of the first n orders that a table keeps as the i-th, its rows from the k-th on.
-fn enter(memory: &mut [u8], i: usize, k: usize, name: Name, fee: u64, n: u64, kept: &[u64])
-    requires { ⌜ Fits (now memory) i k name fee n (now kept) ⌝ }
-    ensures { λ _. ⌜ ShipmentEntered (newShipment name fee (map enteredRow (ordersIn (now (kept .entry)) 0 n))) (now (memory .entry)) (now (memory .exit)) ⌝ }
+fn enter(memory: &mut [u8], i: usize, k: usize, name: Name, fee: Fee, n: u64, kept: &[u64])
+    requires { ⌜ Fits (now memory) i k name (fee .0) n (now kept) ⌝ }
+    ensures { λ _. ⌜ ShipmentEntered (newShipment name (fee .0) (map enteredRow (ordersIn (now (kept .entry)) 0 n))) (now (memory .entry)) (now (memory .exit)) ⌝ }
 {
     enter_orders(memory, k, n as usize, kept);
     enter_head(memory, i, name, fee, n);
@@ -90,13 +94,13 @@ fn enter_behind(
     memory: &mut [u8],
     i: usize,
     name: Name,
-    fee: u64,
+    fee: Fee,
     n: u64,
     faulty: u64,
     kept: &[u64],
 ) -> Acceptance
-    requires { ⌜ Opened (now memory) i name fee × Counted n (now kept) ⌝ }
-    ensures { λ r. ⌜ DoesEnter Passed (newShipment name fee (map enteredRow (ordersIn (now (kept .entry)) 0 n))) n faulty (now (memory .entry)) (acceptanceOf r) (now (memory .exit)) ⌝ }
+    requires { ⌜ Opened (now memory) i name (fee .0) × Counted n (now kept) ⌝ }
+    ensures { λ r. ⌜ DoesEnter Passed (newShipment name (fee .0) (map enteredRow (ordersIn (now (kept .entry)) 0 n))) n faulty (now (memory .entry)) (acceptanceOf r) (now (memory .exit)) ⌝ }
 {
     if 32 <= i {
         return Acceptance::Refused(refusals::SHIPMENTS);
@@ -110,25 +114,45 @@ fn enter_behind(
 }
 
 // The fee of a kind.
-fn fee_of(profile: Profile, kind: u64) -> u64
+fn fee_of(profile: Profile, kind: u64) -> Fee
     requires { ⌜ (profileFits profile ≡ true) × (kind ≤ 4) ⌝ }
-    ensures { λ r. ⌜ (r ≡ getD (profile .fees) kind 0) × (r < 2 ^ 32) ⌝ }
+    ensures { λ r. ⌜ (r .0 ≡ feeFor profile kind) × (r .0 < 2 ^ 32) ⌝ }
 {
     let fees = profile.fees;
     fees[kind as usize]
 }
 
-// Judges the contents of a file, and enters it behind the i shipments that there are. Its orders are kept meanwhile, as many as a book has rows.
-fn take_in(memory: &mut [u8], i: usize, profile: Profile, name: Name, file: &[u8]) -> Acceptance
-    requires { ⌜ (profileFits profile ≡ true) × (soundIn (now memory) ≡ true) × (i ≡ shipmentsIn (now memory)) × (nameInForm name ≡ true) ⌝ }
+// Judges the records of a file whose header has passed, and enters it behind the i shipments that there are.
+fn take_records(
+    memory: &mut [u8],
+    i: usize,
+    profile: Profile,
+    name: Name,
+    stated: Stated,
+    file: &[u8],
+) -> Acceptance
+    requires { ⌜ (profileFits profile ≡ true) × (soundIn (now memory) ≡ true) × (i ≡ shipmentsIn (now memory)) × (nameInForm name ≡ true) × (stated ≡ statedOf profile (now file)) × (stated .verdict ≡ Passed) ⌝ }
     ensures { λ r. ⌜ DoesEnter (contents profile (now (file .entry))) (entered profile name (orders (now (file .entry)))) (length (orders (now (file .entry)))) (faultyCount (orders (now (file .entry)))) (now (memory .entry)) (acceptanceOf r) (now (memory .exit)) ⌝ }
 {
     let fee = fee_of(profile, name.kind);
     let mut kept = [0u64; 2_048];
-    match judge_contents(profile, file, &mut kept) {
+    match judge_records(profile.fields, stated.count, stated.sum, file, &mut kept) {
         Judged::Accepted(n, faulty) => enter_behind(memory, i, name, fee, n, faulty, &kept),
         Judged::Refused(number) => Acceptance::Refused(number),
     }
+}
+
+// Judges the contents of a file, and enters it behind the i shipments that there are.
+fn take_in(memory: &mut [u8], i: usize, profile: Profile, name: Name, file: &[u8]) -> Acceptance
+    requires { ⌜ (profileFits profile ≡ true) × (soundIn (now memory) ≡ true) × (i ≡ shipmentsIn (now memory)) × (nameInForm name ≡ true) ⌝ }
+    ensures { λ r. ⌜ DoesEnter (contents profile (now (file .entry))) (entered profile name (orders (now (file .entry)))) (length (orders (now (file .entry)))) (faultyCount (orders (now (file .entry)))) (now (memory .entry)) (acceptanceOf r) (now (memory .exit)) ⌝ }
+{
+    let stated = judge_stated(profile, file);
+    let verdict = stated.verdict;
+    if let Verdict::Refused(number) = verdict {
+        return Acceptance::Refused(number);
+    }
+    take_records(memory, i, profile, name, stated, file)
 }
 
 // Takes in an order file into a sound book.

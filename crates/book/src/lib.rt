@@ -40,21 +40,20 @@ use memory::shipments;
 use memory::store_shipments;
 use model::Deed;
 use model::Route;
-use money::Amount;
 use money::Money;
+use money::Sum;
+use money::SumRead;
 use sound::is_sound;
-use text::number::is_between;
 ghost use mathlib.Core.Path.{_≡_};
 ghost use mathlib.Core.Bool.{true};
-ghost use Prim.Native.Nat.{_≤_};
-ghost use Rattle.money.specs.Money.{sumCap};
+ghost use Rattle.money.specs.Money.{WithinSum, groszeIn, moneyOfSum};
 ghost use Rattle.model.specs.Calls.{Intake, GoAhead, Pair, Close, OnOrder, Return, Transfer, On, transferred, acted};
 ghost use Rattle.model.specs.declared.Deed.the-variants.{Post, Pay, MarkUndelivered, Withdraw};
 ghost use Rattle.book.specs.Answers.{completionOf, acceptanceOf, pairingOf, postingOf, paymentOf, returningOf, handlingOf};
-ghost use Rattle.memory.specs.Read.{soundIn, readBook};
+ghost use Rattle.memory.specs.Read.{soundIn, readBook, Sits};
 ghost use Rattle.book.specs.Does.{Does, MakesEmpty};
 ghost use Rattle.book.specs.NoReturn.{noReturn};
-ghost use Rattle.book.specs.Place.{namedIn, Sits, ActAt, DoesSought};
+ghost use Rattle.book.specs.Place.{namedIn, ActAt, DoesSought};
 
 // Makes an empty book in memory that is long enough, whatever it holds.
 pub fn make_empty(memory: &mut [u8]) -> Completion
@@ -81,14 +80,14 @@ pub fn intake(memory: &mut [u8], profile: Profile, name: &[u8], file: &[u8]) -> 
 }
 
 // A transfer to the shipment of a name, in a sound book.
-fn transfer_to(memory: &mut [u8], name: Name, money: Money, amount: u64) -> Completion
-    requires { ⌜ (soundIn (now memory) ≡ true) × (amount ≤ sumCap) ⌝ }
-    ensures { λ r. ⌜ DoesSought (namedIn name) (transferred money amount) (now (memory .entry)) (completionOf r) (now (memory .exit)) ⌝ }
+fn transfer_to(memory: &mut [u8], name: Name, sum: Sum) -> Completion
+    requires { ⌜ (soundIn (now memory) ≡ true) × WithinSum (groszeIn sum) ⌝ }
+    ensures { λ r. ⌜ DoesSought (namedIn name) (transferred (moneyOfSum sum) (groszeIn sum)) (now (memory .entry)) (completionOf r) (now (memory .exit)) ⌝ }
 {
     match find_named(memory, name, shipments(memory)) {
         Place::Unsound => Completion::Refused(refusals::UNSOUND),
         Place::Unknown => Completion::Refused(refusals::UNKNOWN),
-        Place::At(i, k) => transfer_at(memory, i, k, money, amount),
+        Place::At(i, k) => transfer_at(memory, i, k, sum),
     }
 }
 
@@ -104,12 +103,12 @@ pub fn transfer(memory: &mut [u8], title: &[u8], amount: u64) -> Completion
     if !is_passed(verdict) {
         return Completion::Refused(epe::refusals::TITLE);
     }
-    if !is_between(1, Amount::SUM_CAP, amount) {
-        return Completion::Refused(refusals::TRANSFER_AMOUNT);
-    }
-    let name = read.name;
     let money = read.money;
-    transfer_to(memory, name, money, amount)
+    let SumRead::Is(sum) = Sum::of_transfer(money, amount) else {
+        return Completion::Refused(refusals::TRANSFER_AMOUNT);
+    };
+    let name = read.name;
+    transfer_to(memory, name, sum)
 }
 
 // Go-ahead (OBS): a Waiting shipment with faults may be paired.

@@ -16,7 +16,8 @@ ghost use mathlib.Core.Path.{_≡_};
 ghost use Rattle.model.specs.Shipment.{isOpen, isPosted};
 ghost use Rattle.model.specs.Calls.{fits, becomes, onOrder};
 ghost use Rattle.book.specs.Answers.{handlingOf};
-ghost use Rattle.book.specs.Place.{Sits, ActAt};
+ghost use Rattle.book.specs.Place.{ActAt};
+ghost use Rattle.memory.specs.Read.{Sits};
 
 // What was handled, or the number of the question answered no.
 pub enum Handling {
@@ -82,7 +83,7 @@ pub fn handle_at(memory: &mut [u8], i: usize, k: usize, deed: Deed, number: u64)
     ensures { λ r. ⌜ ActAt (now (memory .entry)) i k (onOrder deed number) (handlingOf deed r) (now (memory .exit)) ⌝ }
 {
     let head = head_bytes(memory, i);
-    let fee = Fee(fee(head));
+    let fee = fee(head);
     if !is_paired(head) {
         return Handling::Refused(refusals::NOT_PAIRED);
     }

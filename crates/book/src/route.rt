@@ -11,37 +11,45 @@ use memory::row::store_return;
 use memory::row::wait_of;
 use memory::row::wait_table;
 use model::Route;
-use money::Amount;
 use money::Fee;
 use money::Money;
+use money::Sum;
 ghost use mathlib.Core.Path.{_≡_};
 ghost use mathlib.Core.Bool.{false, true};
 ghost use Prim.Native.Nat.{_+_, _≤_, _<_, _^_};
 ghost use lib.Dec.{eqb};
 ghost use lib.ListN.{length};
+ghost use Rattle.money.specs.Money.{WithinSum, groszeIn, moneyOfSum};
 ghost use Rattle.model.specs.Shipment.{byMoney, worth};
 ghost use Rattle.model.specs.Calls.{Returned, isZprWithO, returnedBy};
 ghost use Rattle.model.specs.declared.Route.{Route};
 ghost use Rattle.memory.specs.Layout.{size};
 ghost use Rattle.memory.specs.Rows.{rowOf, WaitTable, IsWaitTable};
+ghost use Rattle.memory.specs.Read.{rowsFrom, Sits};
 ghost use Rattle.book.specs.Answers.{returningOf};
-ghost use Rattle.book.specs.Place.{Sits, ActAt};
-ghost use Rattle.book.specs.Waits.{RowCleared, Cleared};
+ghost use Rattle.book.specs.Place.{ActAt};
+ghost use Rattle.book.specs.Waits.{worthWaiting, RowCleared, Cleared};
 
 // What waits, and in how many orders.
 pub struct Waits {
-    pub sum: u64,
+    pub sum: Sum,
     pub count: u64,
 }
 
-// What an order is worth: its amount in K, the fee in O.
-fn worth_of(row: &[u8], money: Money, fee: u64) -> u64
-    requires { ⌜ (length (now row) ≡ 8) × (fee < 2 ^ 32) ⌝ }
-    ensures { λ r. ⌜ (r ≡ worth money fee (rowOf (now (row .entry)))) × (r < 2 ^ 32) ⌝ }
+// What is taken out of rows on the way: each order's worth in grosze, and each order, as often as its wait adds to the byte of state.
+pub struct Taken {
+    pub worth: u64,
+    pub count: u64,
+}
+
+// What an order is worth, in grosze: its amount in K, the fee in O.
+fn worth_of(row: &[u8], money: Money, fee: Fee) -> u64
+    requires { ⌜ (length (now row) ≡ 8) × (fee .0 < 2 ^ 32) ⌝ }
+    ensures { λ r. ⌜ (r ≡ worth money (fee .0) (rowOf (now (row .entry)))) × (r < 2 ^ 32) ⌝ }
 {
     match money {
-        Money::K => amount(row),
-        Money::O => fee,
+        Money::K => amount(row).0,
+        Money::O => fee.0,
     }
 }
 
@@ -49,51 +57,45 @@ fn worth_of(row: &[u8], money: Money, fee: u64) -> u64
 fn clear_row(
     memory: &mut [u8],
     k: usize,
-    taken: Waits,
+    taken: Taken,
     money: Money,
-    fee: u64,
+    fee: Fee,
     table: &[u8],
-) -> Waits
-    requires { ⌜ (k < 2_048) × (size ≤ length (now memory)) × (fee < 2 ^ 32) × IsWaitTable (now table) × (taken .sum < 2 ^ 60) × (taken .count < 2 ^ 60) ⌝ }
-    ensures { λ r. ⌜ ((route : Route) → WaitTable route money (now (table .entry)) → RowCleared route money fee k taken (now (memory .entry)) (now (memory .exit)) r) × (r .sum < taken .sum + 2 ^ 34) × (r .count ≤ taken .count + 2) ⌝ }
+) -> Taken
+    requires { ⌜ (k < 2_048) × (size ≤ length (now memory)) × (fee .0 < 2 ^ 32) × IsWaitTable (now table) × (taken .worth < 2 ^ 60) × (taken .count < 2 ^ 60) ⌝ }
+    ensures { λ r. ⌜ ((route : Route) → WaitTable route money (now (table .entry)) → RowCleared route money (fee .0) k taken (now (memory .entry)) (now (memory .exit)) r) × (r .worth < taken .worth + 2 ^ 34) × (r .count ≤ taken .count + 2) ⌝ }
 {
     let worth = worth_of(row_bytes(memory, k), money, fee);
     let took = store_return(memory, k, table);
-    let sum = taken.sum + worth * took;
+    let sum = taken.worth + worth * took;
     let count = taken.count + took;
-    Waits {
-        sum: sum,
-        count: count,
-    }
+    Taken { worth: sum, count }
 }
 
 // Ends every wait of a money on a route in the n rows from the k-th on, and answers what waited.
 // A row asks no question: it counts a wait by what that adds to the byte of state, and the sums are divided by it at the end.
-fn clear(memory: &mut [u8], k: usize, n: usize, route: Route, money: Money, fee: u64) -> Waits
-    requires { ⌜ (k + n ≤ 2_048) × (size ≤ length (now memory)) × (fee < 2 ^ 32) ⌝ }
-    ensures { λ r. ⌜ Cleared route money fee k n (now (memory .entry)) (now (memory .exit)) r ⌝ }
+fn clear(memory: &mut [u8], k: usize, n: usize, route: Route, money: Money, fee: Fee) -> Waits
+    requires { ⌜ (k + n ≤ 2_048) × (size ≤ length (now memory)) × (fee .0 < 2 ^ 32) × WithinSum (worthWaiting route money (fee .0) (rowsFrom (now memory) k n)) ⌝ }
+    ensures { λ r. ⌜ Cleared route money (fee .0) k n (now (memory .entry)) (now (memory .exit)) r ⌝ }
 {
     let table = wait_table(route, money);
-    let mut taken = Waits { sum: 0, count: 0 };
+    let mut taken = Taken { worth: 0, count: 0 };
     for done in 0..n {
         taken = clear_row(memory, k + done, taken, money, fee, &table);
     }
     let wait = wait_of(money) as u64;
-    let sum = taken.sum / wait;
+    let sum = Sum::of(money, taken.worth / wait);
     let count = taken.count / wait;
-    Waits {
-        sum: sum,
-        count: count,
-    }
+    Waits { sum, count }
 }
 
 // Is every order worth nothing in a money? In K none is, in O all are where the fee is 0.
-fn are_worth_nothing(money: Money, fee: u64) -> bool
-    ensures { λ r. ⌜ r ≡ byMoney money false (eqb fee 0) ⌝ }
+fn are_worth_nothing(money: Money, fee: Fee) -> bool
+    ensures { λ r. ⌜ r ≡ byMoney money false (eqb (fee .0) 0) ⌝ }
 {
     match money {
         Money::K => false,
-        Money::O => fee == 0,
+        Money::O => fee.0 == 0,
     }
 }
 
@@ -120,12 +122,12 @@ fn is_o(money: Money) -> bool
 }
 
 // A sum of a money that goes back, and from how many orders.
-pub fn returning(money: Money, sum: u64, count: u64) -> Returning
-    ensures { λ r. ⌜ returningOf money r ≡ Returned sum count ⌝ }
+pub fn returning(sum: Sum, count: u64) -> Returning
+    ensures { λ r. ⌜ returningOf (moneyOfSum sum) r ≡ Returned (groszeIn sum) count ⌝ }
 {
-    match money {
-        Money::K => Returning::Amounts(Amount(sum), count),
-        Money::O => Returning::Fees(Fee(sum), count),
+    match sum {
+        Sum::Amounts(amount) => Returning::Amounts(amount, count),
+        Sum::Fees(fee) => Returning::Fees(fee, count),
     }
 }
 
@@ -146,11 +148,11 @@ pub fn return_at(memory: &mut [u8], i: usize, k: usize, route: Route, money: Mon
     if are_worth_nothing(money, fee) {
         return Returning::Refused(refusals::NOTHING_TO_RETURN);
     }
-    let waiting = clear(memory, k, n, route, money, fee);
-    let sum = waiting.sum;
-    let count = waiting.count;
-    if sum == 0 {
+    let waits = clear(memory, k, n, route, money, fee);
+    let sum = waits.sum;
+    let count = waits.count;
+    if sum.grosze() == 0 {
         return Returning::Refused(refusals::NOTHING_TO_RETURN);
     }
-    returning(money, sum, count)
+    returning(sum, count)
 }

@@ -3,10 +3,12 @@
 use memory::row::amount;
 use memory::row::row_bytes;
 use memory::row::state_bits;
+use money::Amount;
 ghost use mathlib.Core.Path.{_≡_};
 ghost use mathlib.Core.Bool.{true};
 ghost use Prim.Native.Nat.{_+_, _≤_};
 ghost use lib.ListN.{length};
+ghost use Rattle.money.specs.Money.{amount, WithinSum};
 ghost use Rattle.model.specs.Shipment.{sumOver, anyFaulty};
 ghost use Rattle.model.specs.Sound.{rowsSound};
 ghost use Rattle.model.specs.declared.Row.{Row};
@@ -15,15 +17,15 @@ ghost use Rattle.memory.specs.Layout.{size};
 ghost use Rattle.memory.specs.Read.{rowsFrom};
 
 // The sum of the amounts of the n rows from the k-th on.
-pub fn amounts_in(memory: &[u8], k: usize, n: usize) -> u64
+pub fn amounts_in(memory: &[u8], k: usize, n: usize) -> Amount
     requires { ⌜ (k + n ≤ 2_048) × (size ≤ length (now memory)) ⌝ }
-    ensures { λ r. ⌜ r ≡ sumOver (λ (row : Row). row .amount .0) (rowsFrom (now (memory .entry)) k n) ⌝ }
+    ensures { λ r. ⌜ (r ≡ amount (sumOver (λ (row : Row). row .amount .0) (rowsFrom (now (memory .entry)) k n))) × WithinSum (r .0) ⌝ }
 {
-    let mut sum = 0;
+    let mut sum = Amount::sum(0);
     let mut i = k;
     let mut left = n;
     while 0 < left {
-        sum += amount(row_bytes(memory, i));
+        sum = Amount::sum(sum.0 + amount(row_bytes(memory, i)).0);
         i += 1;
         left -= 1;
     }

@@ -5,6 +5,8 @@ use crate::refusals;
 use crate::rows::amounts_in;
 use crate::rows::has_faulty_in;
 use memory::head::accepted;
+use memory::head::amounts_accepted;
+use memory::head::fees_accepted;
 use memory::head::has_go_ahead;
 use memory::head::head_bytes;
 use memory::head::is_waiting;
@@ -15,34 +17,36 @@ use memory::head::store_stage;
 use model::Stage;
 use money::Amount;
 use money::Fee;
-use money::Money;
+use money::Sum;
 use sound::shipment::fees;
 ghost use mathlib.Core.Path.{_≡_};
 ghost use mathlib.Core.Bool.{true, not, _||_};
-ghost use Prim.Native.Nat.{_+_, _-_, _≤_};
+ghost use Prim.Native.Nat.{_+_, _≤_};
 ghost use lib.Dec.{ltb};
 ghost use lib.ListN.{length};
-ghost use Rattle.money.specs.Money.{sumCap};
+ghost use Rattle.money.specs.Money.{WithinSum, groszeIn, moneyOfSum};
 ghost use Rattle.model.specs.Shipment.{anyFaulty};
 ghost use Rattle.model.specs.Calls.{transferred, goneAhead, paired, closed};
 ghost use Rattle.model.specs.Sound.{rowsSound};
 ghost use Rattle.model.specs.declared.Stage.the-variants.{Waiting};
 ghost use Rattle.memory.specs.Layout.{size};
 ghost use Rattle.memory.specs.Heads.{goAheadIn};
-ghost use Rattle.memory.specs.Read.{rowsFrom};
+ghost use Rattle.memory.specs.Read.{rowsFrom, Sits};
 ghost use Rattle.book.specs.Answers.{completionOf, pairingOf};
-ghost use Rattle.book.specs.Place.{Sits, ActAt};
+ghost use Rattle.book.specs.Place.{ActAt};
 
 // Takes a transfer to the shipment at a place.
-pub fn transfer_at(memory: &mut [u8], i: usize, k: usize, money: Money, amount: u64) -> Completion
-    requires { ⌜ Sits (now memory) i k × (amount ≤ sumCap) ⌝ }
-    ensures { λ r. ⌜ ActAt (now (memory .entry)) i k (transferred money amount) (completionOf r) (now (memory .exit)) ⌝ }
+pub fn transfer_at(memory: &mut [u8], i: usize, k: usize, sum: Sum) -> Completion
+    requires { ⌜ Sits (now memory) i k × WithinSum (groszeIn sum) ⌝ }
+    ensures { λ r. ⌜ ActAt (now (memory .entry)) i k (transferred (moneyOfSum sum) (groszeIn sum)) (completionOf r) (now (memory .exit)) ⌝ }
 {
-    let total = accepted(head_bytes(memory, i), money) + amount;
-    if Amount::SUM_CAP < total {
+    let money = sum.money();
+    let before = accepted(head_bytes(memory, i), money);
+    let total = before.grosze() + sum.grosze();
+    if !Sum::is_sum(money, total) {
         return Completion::Refused(refusals::TOTAL_ACCEPTED);
     }
-    store_accepted(memory, i, money, total);
+    store_accepted(memory, i, Sum::of(money, total));
     Completion::Done
 }
 
@@ -85,21 +89,11 @@ fn may_pair(head: &[u8], memory: &[u8], k: usize, n: usize) -> bool
     has_go_ahead(head) || !has_faulty_in(memory, k, n)
 }
 
-// What is missing of a need.
-fn missing(need: u64, accepted: u64) -> u64
-    ensures { λ r. ⌜ r ≡ need - accepted ⌝ }
-{
-    if need <= accepted {
-        return 0;
-    }
-    need - accepted
-}
-
 // Is anything missing?
-fn is_short(amount: u64, fee: u64) -> bool
-    ensures { λ r. ⌜ r ≡ (ltb 0 amount || ltb 0 fee) ⌝ }
+fn is_short(amount: Amount, fee: Fee) -> bool
+    ensures { λ r. ⌜ r ≡ (ltb 0 (amount .0) || ltb 0 (fee .0)) ⌝ }
 {
-    0 < amount || 0 < fee
+    0 < amount.0 || 0 < fee.0
 }
 
 // Pairs the shipment at a place.
@@ -115,10 +109,10 @@ pub fn pair_at(memory: &mut [u8], i: usize, k: usize) -> Pairing
     if !may_pair(head, memory, k, n as usize) {
         return Pairing::Refused(refusals::FAULTS);
     }
-    let amount = missing(amounts_in(memory, k, n as usize), accepted(head, Money::K));
-    let fee = missing(fees(head, n), accepted(head, Money::O));
+    let amount = amounts_in(memory, k, n as usize).less(amounts_accepted(head));
+    let fee = fees(head, n).less(fees_accepted(head));
     if is_short(amount, fee) {
-        return Pairing::Short(Amount(amount), Fee(fee));
+        return Pairing::Short(amount, fee);
     }
     store_stage(memory, i, Stage::Paired);
     Pairing::Paired

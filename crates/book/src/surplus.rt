@@ -11,37 +11,42 @@ use memory::head::orders;
 use memory::head::returned;
 use memory::head::store_returned;
 use money::Money;
+use money::Sum;
 use sound::shipment::fees;
 ghost use mathlib.Core.Path.{_≡_};
+ghost use Rattle.money.specs.Money.{sumOf};
 ghost use Rattle.model.specs.Shipment.{needOncePaired, free};
 ghost use Rattle.model.specs.Calls.{surplusReturned};
-ghost use Rattle.memory.specs.Read.{shipmentAt};
+ghost use Rattle.memory.specs.Read.{shipmentAt, Sits};
 ghost use Rattle.book.specs.Answers.{returningOf};
-ghost use Rattle.book.specs.Place.{Sits, ActAt};
+ghost use Rattle.book.specs.Place.{ActAt};
 
 // What the shipment at a place needs of a money, once Paired.
-fn need_at(memory: &[u8], i: usize, k: usize, money: Money) -> u64
+fn need_at(memory: &[u8], i: usize, k: usize, money: Money) -> Sum
     requires { ⌜ Sits (now memory) i k ⌝ }
-    ensures { λ r. ⌜ r ≡ needOncePaired money (shipmentAt (now (memory .entry)) i k) ⌝ }
+    ensures { λ r. ⌜ r ≡ sumOf money (needOncePaired money (shipmentAt (now (memory .entry)) i k)) ⌝ }
 {
     let head = head_bytes(memory, i);
     if !is_paired(head) {
-        return 0;
+        return Sum::of(money, 0);
     }
     let n = orders(head);
     match money {
-        Money::K => amounts_in(memory, k, n as usize),
-        Money::O => fees(head, n),
+        Money::K => Sum::Amounts(amounts_in(memory, k, n as usize)),
+        Money::O => Sum::Fees(fees(head, n)),
     }
 }
 
 // The free money of the shipment at a place.
-fn free_at(memory: &[u8], i: usize, k: usize, money: Money) -> u64
+fn free_at(memory: &[u8], i: usize, k: usize, money: Money) -> Sum
     requires { ⌜ Sits (now memory) i k ⌝ }
-    ensures { λ r. ⌜ r ≡ free money (shipmentAt (now (memory .entry)) i k) ⌝ }
+    ensures { λ r. ⌜ r ≡ sumOf money (free money (shipmentAt (now (memory .entry)) i k)) ⌝ }
 {
     let head = head_bytes(memory, i);
-    accepted(head, money) - need_at(memory, i, k, money) - returned(head, money)
+    let accepted = accepted(head, money);
+    let need = need_at(memory, i, k, money);
+    let returned = returned(head, money);
+    Sum::of(money, accepted.grosze() - need.grosze() - returned.grosze())
 }
 
 // Returns the free money of the shipment at a place.
@@ -55,9 +60,10 @@ pub fn surplus_at(memory: &mut [u8], i: usize, k: usize, money: Money) -> Return
     }
     let before = returned(head, money);
     let sum = free_at(memory, i, k, money);
-    if sum == 0 {
+    let grosze = sum.grosze();
+    if grosze == 0 {
         return Returning::Refused(refusals::NOTHING_TO_RETURN);
     }
-    store_returned(memory, i, money, before + sum);
-    returning(money, sum, 0)
+    store_returned(memory, i, Sum::of(money, before.grosze() + grosze));
+    returning(sum, 0)
 }

@@ -12,6 +12,7 @@ use epe::profile::Profile;
 use libc::STDOUT_FILENO;
 use memory::SIZE;
 use model::Route;
+use money::Fee;
 use money::Money;
 
 // Writes a text.
@@ -164,9 +165,10 @@ fn run_orders(memory: &mut [u8], ident: Ident) {
 
 // Runs ZS1 in the memory, from an empty book and the intake of its file on.
 fn run(memory: &mut [u8], name: &[u8], file: &[u8]) {
+    let fee = Fee::order(350);
     let profile = Profile {
         today: Date(20201007),
-        fees: [350, 350, 350, 350, 350],
+        fees: [fee, fee, fee, fee, fee],
         fields: 19,
     };
     say_completion(b"0. empty book", book::make_empty(memory));

@@ -2,6 +2,7 @@ pub mod Numbers
 pub mod Parts
 pub mod RowLaws
 pub mod HeadLaws
+pub mod HeadFields
 pub mod NameLaws
 pub mod ReadLaws
 pub mod EnterLaws

@@ -3,12 +3,12 @@ use mathlib.Core.Path.{_≡_}
 use mathlib.Core.List.{List, [], _∷_}
 use mathlib.Core.Bool.{Bool, true, cond, _&&_}
 use mathlib.Core.Option.{Option, some, none}
-use Prim.Native.Nat.{ℕ, zero, suc, _+_, _≤_}
+use Prim.Native.Nat.{ℕ, zero, suc, _+_, _≤_, _<_}
 use lib.Dec.{leb}
 use lib.ListN.{length, getD, set}
 use Rattle.model.specs.Shipment.{Shipment}
 use Rattle.model.specs.Book.{Book}
-use Rattle.model.specs.Sound.{sound}
+use Rattle.model.specs.Sound.{sound, shipmentSound}
 use Rattle.model.specs.declared.Row.{Row}
 use Rattle.memory.specs.Number.{numberAt}
 use Rattle.memory.specs.Layout.{size, headBytes, rowBytes}
@@ -51,3 +51,10 @@ readBook m = cond (soundIn m) (some (bookIn m)) none
 -- Memory that is long enough holds an empty book once its first byte is 0, whatever else it holds.
 abbrev pub EmptyIsRead : Type 0
 EmptyIsRead = (m : List ℕ) → size ≤ length m → readBook (set m 0 0) ≡ some []
+
+-- A shipment's place in a sound book: head i, its rows from the k-th on.
+pub record Sits (m : List ℕ) (i k : ℕ) : Type 0 where
+  pub enough : size ≤ length m
+  pub few : i < 32
+  pub room : k + ordersAt m i ≤ 2_048
+  pub sound : shipmentSound (shipmentAt m i k) ≡ true

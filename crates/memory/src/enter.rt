@@ -6,6 +6,7 @@ use crate::row::store_state;
 use epe::name::Name;
 use epe::record::Order;
 use model::State;
+use money::Fee;
 ghost use mathlib.Core.Path.{_≡_};
 ghost use mathlib.Core.Bool.{true};
 ghost use mathlib.Core.List.{_++_};
@@ -38,25 +39,25 @@ pub fn enter_order(memory: &mut [u8], k: usize, order: Order)
 }
 
 // The head of a shipment as it is entered, but for the identifier.
-fn fields(name: Name, fee: u64, n: u64) -> [u8; 64]
+fn fields(name: Name, fee: Fee, n: u64) -> [u8; 64]
     requires { ⌜ (name .ident .len ≤ 17) × (name .kind ≤ 4) ⌝ }
-    ensures { λ r. ⌜ r ≡ replicate 17 0 ++ fieldsOf name fee n ⌝ }
+    ensures { λ r. ⌜ r ≡ replicate 17 0 ++ fieldsOf name (fee .0) n ⌝ }
 {
     let mut head = [0u8; 64];
     head[17] = name.ident.len as u8;
     store_four(&mut head, 18, name.date.0);
     head[22] = name.payment;
     head[23] = name.kind as u8;
-    store_four(&mut head, 24, fee);
+    store_four(&mut head, 24, fee.0);
     head[30] = (n % 256) as u8;
     head[31] = (n / 256 % 256) as u8;
     head
 }
 
 // The head of a shipment of n orders as it is entered.
-fn head_of(name: Name, fee: u64, n: u64) -> [u8; 64]
+fn head_of(name: Name, fee: Fee, n: u64) -> [u8; 64]
     requires { ⌜ (name .ident .len ≤ 17) × (name .kind ≤ 4) ⌝ }
-    ensures { λ r. ⌜ r ≡ name .ident .bytes ++ fieldsOf name fee n ⌝ }
+    ensures { λ r. ⌜ r ≡ name .ident .bytes ++ fieldsOf name (fee .0) n ⌝ }
 {
     let bytes = name.ident.bytes;
     let mut head = fields(name, fee, n);
@@ -82,9 +83,9 @@ fn store_head(memory: &mut [u8], i: usize, head: [u8; 64])
 }
 
 // Enters a shipment of n orders in head i.
-pub fn enter_head(memory: &mut [u8], i: usize, name: Name, fee: u64, n: u64)
-    requires { ⌜ (i < 32) × (size ≤ length (now memory)) × (nameInForm name ≡ true) × (fee < 2 ^ 32) × (n < 2 ^ 16) ⌝ }
-    ensures { λ _. ⌜ HeadEntered name fee n i (now (memory .entry)) (now (memory .exit)) ⌝ }
+pub fn enter_head(memory: &mut [u8], i: usize, name: Name, fee: Fee, n: u64)
+    requires { ⌜ (i < 32) × (size ≤ length (now memory)) × (nameInForm name ≡ true) × (fee .0 < 2 ^ 32) × (n < 2 ^ 16) ⌝ }
+    ensures { λ _. ⌜ HeadEntered name (fee .0) n i (now (memory .entry)) (now (memory .exit)) ⌝ }
 {
     let head = head_of(name, fee, n);
     store_head(memory, i, head);

@@ -4,10 +4,16 @@ use crate::number::read_four;
 use crate::number::read_two;
 use crate::number::store_eight;
 use model::Stage;
+use money::Amount;
+use money::Fee;
 use money::Money;
+use money::Sum;
 ghost use mathlib.Core.Path.{_≡_};
+ghost use mathlib.Core.Bool.{_&&_};
 ghost use Prim.Native.Nat.{_+_, _≤_, _<_, _^_};
 ghost use lib.ListN.{length, getD, set};
+ghost use Rattle.money.specs.Money.{amount, fee, isSum, WithinSum, sumOf, groszeIn, moneyOfSum};
+ghost use Rattle.money.specs.declared.Money.the-variants.{K, O};
 ghost use Rattle.model.specs.Shipment.{isWaiting, isPaired};
 ghost use Rattle.memory.specs.Number.{numberAt, withNumber};
 ghost use Rattle.memory.specs.Layout.{size, headAt, headBytes};
@@ -57,12 +63,12 @@ pub fn has_go_ahead(head: &[u8]) -> bool
     head[29] == 1
 }
 
-// The fee F.
-pub fn fee(head: &[u8]) -> u64
+// The fee F. What four bytes say is never above the cap of a sum.
+pub fn fee(head: &[u8]) -> Fee
     requires { ⌜ length (now head) ≡ 64 ⌝ }
-    ensures { λ r. ⌜ (r ≡ numberAt 4 (now (head .entry)) 24) × (r < 2 ^ 32) ⌝ }
+    ensures { λ r. ⌜ (r ≡ fee (numberAt 4 (now (head .entry)) 24)) × (r .0 < 2 ^ 32) ⌝ }
 {
-    read_four(head, 24)
+    Fee::sum(read_four(head, 24))
 }
 
 // How many orders the shipment has.
@@ -93,22 +99,64 @@ fn returned_at(money: Money) -> usize
     }
 }
 
-// The transfers accepted of a money.
-pub fn accepted(head: &[u8], money: Money) -> u64
+// Are the transfers accepted and the surplus returned of a money sums?
+pub fn has_sums_in_range(head: &[u8], money: Money) -> bool
     requires { ⌜ length (now head) ≡ 64 ⌝ }
-    ensures { λ r. ⌜ r ≡ numberAt 8 (now (head .entry)) (acceptedAt money) ⌝ }
+    ensures { λ r. ⌜ r ≡ (isSum (numberAt 8 (now (head .entry)) (acceptedAt money)) && isSum (numberAt 8 (now (head .entry)) (returnedAt money))) ⌝ }
+{
+    let accepted = accepted_at(money);
+    let returned = returned_at(money);
+    Sum::is_sum(money, read_eight(head, accepted)) && Sum::is_sum(money, read_eight(head, returned))
+}
+
+// The transfers accepted of a money.
+pub fn accepted(head: &[u8], money: Money) -> Sum
+    requires { ⌜ (length (now head) ≡ 64) × WithinSum (numberAt 8 (now head) (acceptedAt money)) ⌝ }
+    ensures { λ r. ⌜ r ≡ sumOf money (numberAt 8 (now (head .entry)) (acceptedAt money)) ⌝ }
 {
     let at = accepted_at(money);
-    read_eight(head, at)
+    Sum::of(money, read_eight(head, at))
+}
+
+// The transfers accepted of K.
+pub fn amounts_accepted(head: &[u8]) -> Amount
+    requires { ⌜ (length (now head) ≡ 64) × WithinSum (numberAt 8 (now head) (acceptedAt K)) ⌝ }
+    ensures { λ r. ⌜ r ≡ amount (numberAt 8 (now (head .entry)) (acceptedAt K)) ⌝ }
+{
+    Amount::sum(read_eight(head, 32))
+}
+
+// The transfers accepted of O.
+pub fn fees_accepted(head: &[u8]) -> Fee
+    requires { ⌜ (length (now head) ≡ 64) × WithinSum (numberAt 8 (now head) (acceptedAt O)) ⌝ }
+    ensures { λ r. ⌜ r ≡ fee (numberAt 8 (now (head .entry)) (acceptedAt O)) ⌝ }
+{
+    Fee::sum(read_eight(head, 40))
 }
 
 // The surplus returned of a money.
-pub fn returned(head: &[u8], money: Money) -> u64
-    requires { ⌜ length (now head) ≡ 64 ⌝ }
-    ensures { λ r. ⌜ r ≡ numberAt 8 (now (head .entry)) (returnedAt money) ⌝ }
+pub fn returned(head: &[u8], money: Money) -> Sum
+    requires { ⌜ (length (now head) ≡ 64) × WithinSum (numberAt 8 (now head) (returnedAt money)) ⌝ }
+    ensures { λ r. ⌜ r ≡ sumOf money (numberAt 8 (now (head .entry)) (returnedAt money)) ⌝ }
 {
     let at = returned_at(money);
-    read_eight(head, at)
+    Sum::of(money, read_eight(head, at))
+}
+
+// The surplus returned of K.
+pub fn amounts_returned(head: &[u8]) -> Amount
+    requires { ⌜ (length (now head) ≡ 64) × WithinSum (numberAt 8 (now head) (returnedAt K)) ⌝ }
+    ensures { λ r. ⌜ r ≡ amount (numberAt 8 (now (head .entry)) (returnedAt K)) ⌝ }
+{
+    Amount::sum(read_eight(head, 48))
+}
+
+// The surplus returned of O.
+pub fn fees_returned(head: &[u8]) -> Fee
+    requires { ⌜ (length (now head) ≡ 64) × WithinSum (numberAt 8 (now head) (returnedAt O)) ⌝ }
+    ensures { λ r. ⌜ r ≡ fee (numberAt 8 (now (head .entry)) (returnedAt O)) ⌝ }
+{
+    Fee::sum(read_eight(head, 56))
 }
 
 // The byte that says a stage.
@@ -141,21 +189,21 @@ pub fn store_go_ahead(memory: &mut [u8], i: usize)
 }
 
 // Stores the transfers accepted of a money in head i.
-pub fn store_accepted(memory: &mut [u8], i: usize, money: Money, n: u64)
+pub fn store_accepted(memory: &mut [u8], i: usize, sum: Sum)
     requires { ⌜ (i < 32) × (size ≤ length (now memory)) ⌝ }
-    ensures { λ _. ⌜ now (memory .exit) ≡ withNumber 8 (now (memory .entry)) (headAt i + acceptedAt money) n ⌝ }
+    ensures { λ _. ⌜ now (memory .exit) ≡ withNumber 8 (now (memory .entry)) (headAt i + acceptedAt (moneyOfSum sum)) (groszeIn sum) ⌝ }
 {
     let at = HEADS + 64 * i;
-    let field = accepted_at(money);
-    store_eight(memory, at + field, n);
+    let field = accepted_at(sum.money());
+    store_eight(memory, at + field, sum.grosze());
 }
 
 // Stores the surplus returned of a money in head i.
-pub fn store_returned(memory: &mut [u8], i: usize, money: Money, n: u64)
+pub fn store_returned(memory: &mut [u8], i: usize, sum: Sum)
     requires { ⌜ (i < 32) × (size ≤ length (now memory)) ⌝ }
-    ensures { λ _. ⌜ now (memory .exit) ≡ withNumber 8 (now (memory .entry)) (headAt i + returnedAt money) n ⌝ }
+    ensures { λ _. ⌜ now (memory .exit) ≡ withNumber 8 (now (memory .entry)) (headAt i + returnedAt (moneyOfSum sum)) (groszeIn sum) ⌝ }
 {
     let at = HEADS + 64 * i;
-    let field = returned_at(money);
-    store_eight(memory, at + field, n);
+    let field = returned_at(sum.money());
+    store_eight(memory, at + field, sum.grosze());
 }

@@ -15,6 +15,7 @@ use calendar::date::Date;
 use calendar::date::is_real;
 use epe::ident::Ident;
 use epe::ident::is_identifier;
+use epe::ident::is_same;
 use epe::name::Name;
 use text::bytes::equal;
 use text::bytes::first;
@@ -47,12 +48,11 @@ pub fn ident(head: &[u8]) -> Ident
 }
 
 // Is the shipment of that identifier?
-pub fn is_called(head: &[u8], ident: Ident) -> bool
+pub fn is_called(head: &[u8], wanted: Ident) -> bool
     requires { ⌜ length (now head) ≡ 64 ⌝ }
-    ensures { λ r. ⌜ r ≡ sameIdent ident (nameIn (now (head .entry)) .ident) ⌝ }
+    ensures { λ r. ⌜ r ≡ sameIdent wanted (nameIn (now (head .entry)) .ident) ⌝ }
 {
-    let bytes = ident.bytes;
-    ident.len == head[17] as usize && equal(&bytes, first(head, 17))
+    is_same(wanted, ident(head))
 }
 
 // Is the shipment of that name?

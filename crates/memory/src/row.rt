@@ -192,12 +192,12 @@ fn state_of(code: u8) -> State
     State::Faulty(0, false, false)
 }
 
-// The amount that eight bytes say.
-pub fn amount(row: &[u8]) -> u64
+// The amount that eight bytes say. What four bytes say is never above the cap of a sum.
+pub fn amount(row: &[u8]) -> Amount
     requires { ⌜ length (now row) ≡ 8 ⌝ }
-    ensures { λ r. ⌜ (r ≡ rowOf (now (row .entry)) .amount .0) × (r < 2 ^ 32) ⌝ }
+    ensures { λ r. ⌜ (r ≡ rowOf (now (row .entry)) .amount) × (r .0 < 2 ^ 32) ⌝ }
 {
-    read_four(row, 0)
+    Amount::sum(read_four(row, 0))
 }
 
 // The byte of state with the free bytes behind it, lowest first. A loop reads these four of many rows at a time, as it does an amount.
@@ -213,9 +213,9 @@ pub fn read_row(row: &[u8]) -> Row
     requires { ⌜ length (now row) ≡ 8 ⌝ }
     ensures { λ r. ⌜ r ≡ rowOf (now (row .entry)) ⌝ }
 {
-    let amount = Amount(amount(row));
+    let amount = amount(row);
     Row {
-        amount: amount,
+        amount,
         state: state_of(row[4]),
     }
 }

@@ -11,7 +11,8 @@ use Rattle.epe.specs.declared.profile.Profile.{Profile}
 use Rattle.epe.specs.declared.verdict.Verdict.{Verdict}
 use Rattle.epe.specs.declared.verdict.Verdict.the-variants.{Passed, Refused as No}
 use Rattle.model.specs.Shipment.{Shipment}
-use Rattle.model.specs.Calls.{Intake, Transfer, Refused, Accepted, Outcome, leave, ask, choose, transferred}
+use Rattle.model.specs.Calls.{Answer, Refused, Done, Accepted, IsPaired, Short, FeeEarned, AmountPaid, Returned, isRefusal, changesNothing}
+use Rattle.model.specs.Calls.{Intake, Transfer, Outcome, leave, ask, choose, transferred}
 use Rattle.model.specs.Book.{Book, Step, stay, inquire, unlessRefused, onFirst, sameName, isUnknown, entered, takenIn, transferredIn, step}
 
 pub not-both : (t : Bool) → t ≡ true → t ≡ false → ⊥
@@ -63,3 +64,14 @@ pub transfer-either : (P : Step → Type 0) (title : List ℕ) (amount : ℕ) (b
 unfolding step transferredIn
 transfer-either P title amount book refused accepted =
     verdict-either P _ book _ refused (λ titled. inquire-either P _ 12 book _ refused (λ fits. accepted))
+
+-- a refusal is an answer that changes nothing
+pub refusal-moves-nothing : (answer : Answer) → isRefusal answer ≡ true → changesNothing answer ≡ true
+refusal-moves-nothing (Refused n) h = refl
+refusal-moves-nothing Done h = absurd (false≢true h)
+refusal-moves-nothing (Accepted orders faulty) h = absurd (false≢true h)
+refusal-moves-nothing IsPaired h = absurd (false≢true h)
+refusal-moves-nothing (Short k o) h = refl
+refusal-moves-nothing (FeeEarned fee) h = absurd (false≢true h)
+refusal-moves-nothing (AmountPaid amount) h = absurd (false≢true h)
+refusal-moves-nothing (Returned total count) h = absurd (false≢true h)

@@ -1,3 +1,4 @@
+pub mod AboutZs1
 pub mod Asking
 pub mod Sums
 pub mod Shipments
@@ -13,4 +14,3 @@ pub mod Conserved
 pub mod NeverTwice
 pub mod Entire
 pub mod Demand3
-pub mod Zs1

@@ -10,7 +10,8 @@ use lib.Dec.{leb, ltb, eqb}
 use lib.ListN.{length, getD, take, length-append, length-map}
 use Rattle.text.specs.Bytes.{between}
 use Rattle.text.proofs.Branches.{both-yes, cond-either}
-use Rattle.money.specs.Money.{orderCap}
+use Rattle.money.specs.Money.{fee, orderCap, WithinOrder}
+use Rattle.money.specs.declared.Fee.{Fee}
 use Rattle.money.specs.declared.Money.{Money}
 use Rattle.money.specs.declared.Money.the-variants.{K, O}
 use Rattle.epe.specs.Ident.{sameIdent}
@@ -30,7 +31,7 @@ use Rattle.epe.proofs.NameLaws.{parts-in-form}
 use Rattle.epe.proofs.QuestionLaws.{all-yes, all-yes-passed, yes-before, yes-behind}
 use Rattle.model.specs.Shipment.{Shipment}
 use Rattle.model.specs.Calls.{Call, Intake, Transfer, On, Refused, Outcome, transferred, acted}
-use Rattle.model.specs.Book.{Book, Step, stay, onFirst, isCalled, isUnknown, rowsIn}
+use Rattle.model.specs.Book.{feeFor, Book, Step, stay, onFirst, isCalled, isUnknown, rowsIn}
 use Rattle.model.specs.Book.{enteredRow, entered, takenIn, step}
 use Rattle.model.specs.Sound.{faultInRange, beforePairing, rowSound, rowsSound, shipmentSound, shipmentsSound, sound, StaysSound, AlwaysSound}
 use Rattle.model.specs.Demand.{run}
@@ -121,15 +122,15 @@ opened-in-form name file h =
     parts-in-form name (all-yes-passed (nameQuestions name) (yes-before (nameQuestions name) behind named))
 
 -- a fee of a profile that fits
-fee-fits : (fees : List ℕ) (kind : ℕ) → feesFit fees ≡ true → getD fees kind 0 ≤ orderCap
+each-fits : (fees : List Fee) (kind : ℕ) → feesFit fees ≡ true → WithinOrder (getD fees kind (fee 0) .0)
 unfolding feesFit
-fee-fits [] kind h = omega arith
-fee-fits (fee ∷ fees) zero h = leb-true fee orderCap (search halves)
-fee-fits (fee ∷ fees) (suc kind) h = fee-fits fees kind (search halves)
+each-fits [] kind h = omega arith
+each-fits (one ∷ fees) zero h = leb-true (one .0) orderCap (search halves)
+each-fits (one ∷ fees) (suc kind) h = each-fits fees kind (search halves)
 
-fees-of-profile : (profile : Profile) → profileFits profile ≡ true → feesFit (profile .fees) ≡ true
+pub fee-fits : (profile : Profile) (kind : ℕ) → profileFits profile ≡ true → WithinOrder (feeFor profile kind)
 unfolding profileFits
-fees-of-profile profile h = search halves
+fee-fits profile kind h = each-fits (profile .fees) kind (search halves)
 
 -- the orders of an accepted file enter sound
 in-between : (low high n : ℕ) → low ≤ n → n ≤ high → between low high n ≡ true
@@ -162,7 +163,7 @@ entered-in-order : (profile : Profile) (name : Name) (orders : List Order) → p
 unfolding entered
 entered-in-order profile name orders fits formed some ranged = record {
   name-in-form = formed;
-  fee-fits = fee-fits (profile .fees) (name .kind) (fees-of-profile profile fits);
+  fee-fits = fee-fits profile (name .kind) fits;
   an-order = omega (arith, length-map orders enteredRow);
   rows-sound = entered-rows orders ranged;
   go-ahead-with-faults = λ e. absurd (false≢true e);

@@ -5,8 +5,7 @@ use mathlib.Core.Option.{Option, some, none}
 use Prim.Native.Nat.{ℕ, _+_}
 use lib.Dec.{leb, ltb, eqb}
 use lib.ListN.{length, getD}
-use Rattle.text.specs.Bytes.{between}
-use Rattle.money.specs.Money.{sumCap}
+use Rattle.money.specs.Money.{fee, isTransfer}
 use Rattle.epe.specs.Ident.{sameIdent}
 use Rattle.epe.specs.Name.{nameOf, titleOf}
 use Rattle.epe.specs.Opening.{opening}
@@ -90,8 +89,12 @@ newShipment name fee rows = record {
   rows = rows;
 }
 
+-- "fee F (the profile's for its kind)"
+abbrev pub feeFor : Profile → ℕ → ℕ
+feeFor profile kind = getD (profile .fees) kind (fee 0) .0
+
 unfoldable pub entered : Profile → Name → List Order → Shipment
-entered profile name orders = newShipment name (getD (profile .fees) (name .kind) 0) (map enteredRow orders)
+entered profile name orders = newShipment name (feeFor profile (name .kind)) (map enteredRow orders)
 
 -- "Profile within the ranges above? 905", the opening, "Identifier not yet in the book? 101", the contents,
 -- "Fewer than 32 shipments in the book? 903", "Its orders fit with those present in 2,048 rows? 904".
@@ -110,7 +113,7 @@ takenIn profile name file book =
 unfoldable pub transferredIn : List ℕ → ℕ → Book → Step
 transferredIn title amount book =
     unlessRefused (titleOf title .verdict) book
-    (inquire (between 1 sumCap amount) 12 book
+    (inquire (isTransfer amount) 12 book
     (onFirst (λ (s : Shipment). sameName (titleOf title .name) (s .name)) (transferred (titleOf title .money) amount) book))
 
 unfoldable pub step : Book → Call → Step

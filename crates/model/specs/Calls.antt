@@ -5,7 +5,7 @@ use Prim.Native.Nat.{ℕ, _+_, _-_}
 use lib.Dec.{leb, ltb}
 use lib.ListN.{length, getD, set}
 use Rattle.text.specs.Bytes.{between}
-use Rattle.money.specs.Money.{sumCap}
+use Rattle.money.specs.Money.{isSum}
 use Rattle.money.specs.declared.Money.{Money}
 use Rattle.money.specs.declared.Money.the-variants.{K, O}
 use Rattle.epe.specs.declared.ident.Ident.{Ident}
@@ -54,6 +54,17 @@ isRefusal (Short k o) = false
 isRefusal (FeeEarned fee) = false
 isRefusal (AmountPaid amount) = false
 isRefusal (Returned total count) = false
+
+-- A refusal leaves all as it was, and "Short changes nothing".
+abbrev pub changesNothing : Answer → Bool
+changesNothing (Refused n) = true
+changesNothing Done = false
+changesNothing (Accepted orders faulty) = false
+changesNothing IsPaired = false
+changesNothing (Short k o) = true
+changesNothing (FeeEarned fee) = false
+changesNothing (AmountPaid amount) = false
+changesNothing (Returned total count) = false
 
 -- What a call leaves of its shipment, and its answer.
 pub record Outcome : Type 0 where
@@ -144,7 +155,7 @@ withState state row = record { amount = row .amount; state = state }
 
 -- "Total accepted for that money still at most 9,999,999,999,999? 14. Any stage takes it."
 unfoldable pub transferred : Money → ℕ → Shipment → Outcome
-transferred money n s = ask (leb (accepted money s + n) sumCap) 14 s (leave Done (withAccepted money n s))
+transferred money n s = ask (isSum (accepted money s + n)) 14 s (leave Done (withAccepted money n s))
 
 -- "Go-ahead: Waiting? 15. Any faulty order? 16. None came before? 17."
 unfoldable pub goneAhead : Shipment → Outcome

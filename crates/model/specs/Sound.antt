@@ -9,7 +9,7 @@ use Prim.Native.Nat.{ℕ, _+_}
 use lib.Dec.{leb, eqb}
 use lib.ListN.{length}
 use Rattle.text.specs.Bytes.{between}
-use Rattle.money.specs.Money.{orderCap, sumCap}
+use Rattle.money.specs.Money.{isOrderAmount, isOrderFee, isSum}
 use Rattle.money.specs.declared.Money.{Money}
 use Rattle.money.specs.declared.Money.the-variants.{K, O}
 use Rattle.epe.specs.Name.{nameInForm}
@@ -42,7 +42,7 @@ beforePairing (Withdrawn k o) = false
 
 unfoldable pub rowSound : Stage → Row → Bool
 rowSound stage row =
-    between 1 orderCap (row .amount .0)
+    isOrderAmount (row .amount .0)
     && (faultInRange (row .state) && (isPaired stage || beforePairing (row .state)))
 
 unfoldable pub rowsSound : Stage → List Row → Bool
@@ -52,15 +52,15 @@ rowsSound stage (row ∷ rows) = rowSound stage row && rowsSound stage rows
 -- Accepted and returned are sums, and "transfers accepted are at least surplus returned plus, when Paired, the need".
 unfoldable pub moneySound : Money → Shipment → Bool
 moneySound money s =
-    leb (accepted money s) sumCap
-    && (leb (returned money s) sumCap
+    isSum (accepted money s)
+    && (isSum (returned money s)
     && (leb (returned money s + needOncePaired money s) (accepted money s)
     && (not (isWaiting (s .stage)) || eqb (returned money s) 0)))
 
 unfoldable pub shipmentSound : Shipment → Bool
 shipmentSound s =
     nameInForm (s .name)
-    && (leb (s .fee) orderCap
+    && (isOrderFee (s .fee)
     && (leb 1 (length (s .rows))
     && (rowsSound (s .stage) (s .rows)
     && ((not (s .goAhead) || anyFaulty (s .rows))

@@ -4,6 +4,7 @@ use mathlib.Core.List.{List, [], _∷_, _++_, map}
 use Prim.Native.Nat.{ℕ}
 use Prim.Native.String.{String}
 use Rattle.text.specs.Quoted.{bytes}
+use Rattle.money.specs.Money.{fee}
 use Rattle.money.specs.Text.{orderText}
 use Rattle.money.specs.declared.AmountRead.the-variants.{Is, Not}
 use Rattle.money.specs.declared.Money.{Money}
@@ -34,7 +35,7 @@ fileBehind header =
     ∷ [])
 
 abbrev pub profile : Profile
-profile = record { today = record { 0 = 20201007 }; fees = 350 ∷ 350 ∷ 350 ∷ 350 ∷ 350 ∷ []; fields = 19 }
+profile = record { today = record { 0 = 20201007 }; fees = fee 350 ∷ fee 350 ∷ fee 350 ∷ fee 350 ∷ fee 350 ∷ []; fields = 19 }
 
 abbrev pub intake : String → String → Call
 intake name header = Intake profile (bytes name) (fileBehind header)

@@ -1,22 +1,25 @@
 -- A shipment's soundness, judged by its head and the tally of its rows.
 -- Assumes nothing.
-use mathlib.Core.Path.{_≡_, refl}
-use mathlib.Core.Bool.{Bool, true, false, not, cond, _&&_, _||_}
+use mathlib.Core.Path.{_≡_, refl, sym}
+use mathlib.Core.Bool.{Bool, true, false, not, cond, _&&_, _||_, false≢true}
 use mathlib.Core.List.{List}
 use Prim.Native.Nat.{ℕ, _+_, _*_, _^_, _≤_, _<_}
 use native.Mathlib.Nat.{mul-le-mul-right}
 use native.Mathlib.Omega.{arith}
-use borrow.Author.Tests.{le-leb, lt-leb}
+use borrow.Author.Tests.{le-leb, lt-leb, leb-true}
 use lib.ListN.{getD}
+use Rattle.text.proofs.Branches.{and-left, and-right}
+use Rattle.money.specs.Money.{sumCap, isSum, WithinSum}
+use Rattle.money.specs.declared.Money.{Money}
 use Rattle.epe.specs.Name.{nameInForm}
-use Rattle.model.specs.Shipment.{need}
+use Rattle.model.specs.Shipment.{onlyIf, need}
 use Rattle.model.specs.Sound.{moneySound, shipmentSound}
 use Rattle.memory.specs.Number.{numberAt}
 use Rattle.memory.specs.Layout.{headBytes}
-use Rattle.memory.specs.Heads.{nameIn, stageOf, flagsInForm, shipmentIn}
+use Rattle.memory.specs.Heads.{nameIn, stageOf, flagsInForm, acceptedAt, returnedAt, shipmentIn}
 use Rattle.memory.specs.Read.{rowsFrom}
 use Rattle.sound.specs.declared.tally.Tally.{Tally}
-use Rattle.sound.specs.Tally.{tallyOf, rowsFit, goAheadFits, sumsFit, moneyFits, moneysFit, judged, JudgedIsSound}
+use Rattle.sound.specs.Tally.{tallyOf, pairedIn, waitingIn, rowsFit, goAheadFits, isCovered, moneyFits, moneysFit, judged, JudgedIsSound}
 use Rattle.sound.specs.Walk.{soundAt}
 use Rattle.sound.proofs.ReadLaws.{rows-many}
 use Rattle.sound.proofs.RowClasses.{rows-fit, any-faulty}
@@ -32,11 +35,23 @@ go-ahead false false true t = refl
 go-ahead false faulty false t = refl
 
 pub judged-is-sound : JudgedIsSound
-unfolding shipmentSound moneySound need shipmentIn rowsFit goAheadFits sumsFit moneyFits moneysFit judged
+unfolding shipmentSound moneySound need shipmentIn rowsFit goAheadFits isCovered moneyFits moneysFit judged
 judged-is-sound head rows = rw (rows-fit (stageOf (getD head 28 0)) rows, any-faulty rows, go-ahead)
 
-pub need-most : (n fee : ℕ) → n ≤ 2_048 → fee < 2 ^ 32 → n * fee < 2 ^ 60
+-- so many fees, and so many amounts, of four bytes each are a sum
+pub need-most : (n fee : ℕ) → n ≤ 2_048 → fee < 2 ^ 32 → WithinSum (n * fee)
 need-most n fee few small = omega (arith, mul-le-mul-right fee few)
+
+-- the sums of a money, as code asks for them: both in range, then what they cover
+sums-wrong : (a b c : Bool) → (a && b) ≡ false → false ≡ (a && (b && c))
+sums-wrong true true c h = absurd (false≢true (sym h))
+sums-wrong true false c h = refl
+sums-wrong false b c h = refl
+
+sums-right : (a b c : Bool) → (a && b) ≡ true → c ≡ (a && (b && c))
+sums-right true true c h = refl
+sums-right true false c h = absurd (false≢true h)
+sums-right false b c h = absurd (false≢true h)
 
 -- a shipment where it lies
 module _ (m head : List ℕ) (i k : ℕ) (head-is : head ≡ headBytes m i) where
@@ -62,3 +77,33 @@ module _ (m head : List ℕ) (i k : ℕ) (head-is : head ≡ headBytes m i) wher
       pub sound-as-judged : (tally : Tally) (r : Bool) → nameInForm (nameIn head) ≡ true → tally ≡ tallyOf (rowsFrom m k n) → r ≡ judged head n tally
           → r ≡ soundAt m i k
       sound-as-judged tally r h e told = rw (judged-there, h, ← e) told
+
+module _ (head : List ℕ) (money : Money) (need : ℕ) where
+  abbrev accepted : ℕ
+  accepted = numberAt 8 head (acceptedAt money)
+
+  abbrev returned : ℕ
+  returned = numberAt 8 head (returnedAt money)
+
+  abbrev covered : Bool
+  covered = isCovered accepted returned (onlyIf (pairedIn head) need) (waitingIn head)
+
+  pub money-wrong : (isSum accepted && isSum returned) ≡ false → false ≡ moneyFits head money need
+  unfolding moneyFits
+  money-wrong h = sums-wrong (isSum accepted) (isSum returned) covered h
+
+  pub money-right : (isSum accepted && isSum returned) ≡ true → covered ≡ moneyFits head money need
+  unfolding moneyFits
+  money-right h = sums-right (isSum accepted) (isSum returned) covered h
+
+-- sums that are judged to be in range
+pub sums-are : (head : List ℕ) (money : Money) → (isSum (numberAt 8 head (acceptedAt money)) && isSum (numberAt 8 head (returnedAt money))) ≡ true
+    → WithinSum (numberAt 8 head (acceptedAt money)) × WithinSum (numberAt 8 head (returnedAt money))
+sums-are head money both =
+    let accepted = numberAt 8 head (acceptedAt money) in
+    let returned = numberAt 8 head (returnedAt money) in
+    (leb-true accepted sumCap (and-left (isSum accepted) (isSum returned) both), leb-true returned sumCap (and-right (isSum accepted) (isSum returned) both))
+
+pub only-if-within : (t : Bool) (n : ℕ) → WithinSum n → WithinSum (onlyIf t n)
+only-if-within true n h = h
+only-if-within false n h = omega arith

@@ -6,8 +6,7 @@ use Prim.Native.Nat.{ℕ, _+_, _*_, _%_}
 use lib.Bits.{bitOr}
 use lib.Dec.{leb, ltb, eqb}
 use lib.ListN.{length, getD}
-use Rattle.text.specs.Bytes.{between}
-use Rattle.money.specs.Money.{orderCap, sumCap}
+use Rattle.money.specs.Money.{amount, isOrderAmount, isOrderFee, isSum}
 use Rattle.money.specs.declared.Money.{Money}
 use Rattle.money.specs.declared.Money.the-variants.{K, O}
 use Rattle.epe.specs.Name.{nameInForm}
@@ -21,12 +20,12 @@ use Rattle.sound.specs.declared.tally.Tally.{Tally}
 
 -- A row joins its state's class, and counts where its amount is out of range.
 abbrev pub outIn : Row → ℕ
-outIn row = onlyIf (not (between 1 orderCap (row .amount .0))) 1
+outIn row = onlyIf (not (isOrderAmount (row .amount .0))) 1
 
 abbrev pub tallied : Tally → Row → Tally
 tallied tally row = record {
   classes = bitOr (tally .classes) (classOf (row .state));
-  amounts = tally .amounts + row .amount .0;
+  amounts = amount (tally .amounts .0 + row .amount .0);
   out = tally .out + outIn row;
 }
 
@@ -36,7 +35,7 @@ joined classes [] = classes
 joined classes (row ∷ rows) = joined (bitOr classes (classOf (row .state))) rows
 
 abbrev pub tallyOf : List Row → Tally
-tallyOf rows = record { classes = joined 0 rows; amounts = sumOver (λ (row : Row). row .amount .0) rows; out = sumOver outIn rows }
+tallyOf rows = record { classes = joined 0 rows; amounts = amount (sumOver (λ (row : Row). row .amount .0) rows); out = sumOver outIn rows }
 
 -- The lowest bit is that of Faulty rows.
 abbrev pub faultyIn : Tally → Bool
@@ -56,20 +55,21 @@ unfoldable pub goAheadFits : List ℕ → Tally → Bool
 goAheadFits head tally =
     cond (goAheadIn head) (faultyIn tally) (cond (pairedIn head) (not (faultyIn tally)) true)
 
-unfoldable pub sumsFit : ℕ → ℕ → ℕ → Bool → Bool
-sumsFit accepted returned need waiting =
-    leb accepted sumCap && (leb returned sumCap && (leb (returned + need) accepted && (not waiting || eqb returned 0)))
+unfoldable pub isCovered : ℕ → ℕ → ℕ → Bool → Bool
+isCovered accepted returned need waiting = leb (returned + need) accepted && (not waiting || eqb returned 0)
 
 unfoldable pub moneyFits : List ℕ → Money → ℕ → Bool
 moneyFits head money need =
-    sumsFit (numberAt 8 head (acceptedAt money)) (numberAt 8 head (returnedAt money)) (onlyIf (pairedIn head) need) (waitingIn head)
+    isSum (numberAt 8 head (acceptedAt money))
+    && (isSum (numberAt 8 head (returnedAt money))
+    && isCovered (numberAt 8 head (acceptedAt money)) (numberAt 8 head (returnedAt money)) (onlyIf (pairedIn head) need) (waitingIn head))
 
 unfoldable pub moneysFit : List ℕ → ℕ → Tally → Bool
-moneysFit head n tally = moneyFits head K (tally .amounts) && moneyFits head O (n * numberAt 4 head 24)
+moneysFit head n tally = moneyFits head K (tally .amounts .0) && moneyFits head O (n * numberAt 4 head 24)
 
 unfoldable pub judged : List ℕ → ℕ → Tally → Bool
 judged head n tally =
-    leb (numberAt 4 head 24) orderCap
+    isOrderFee (numberAt 4 head 24)
     && (leb 1 n
     && (rowsFit head tally
     && (goAheadFits head tally && moneysFit head n tally)))

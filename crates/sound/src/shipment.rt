@@ -8,33 +8,33 @@ use memory::head::accepted;
 use memory::head::fee;
 use memory::head::has_flags_in_form;
 use memory::head::has_go_ahead;
+use memory::head::has_sums_in_range;
 use memory::head::head_bytes;
 use memory::head::is_paired;
 use memory::head::is_waiting;
 use memory::head::orders;
 use memory::head::returned;
 use memory::name::has_name_in_form;
-use money::Amount;
 use money::Fee;
-use money::Money;
+use money::Sum;
 ghost use mathlib.Core.Path.{_≡_};
-ghost use Prim.Native.Nat.{_*_, _≤_, _<_, _^_};
-ghost use lib.Dec.{leb};
+ghost use Prim.Native.Nat.{_*_, _≤_, _<_};
 ghost use lib.ListN.{length};
-ghost use Rattle.money.specs.Money.{orderCap};
+ghost use Rattle.money.specs.Money.{fee, isOrderFee, WithinSum, sumOf, groszeIn, moneyOfSum};
 ghost use Rattle.model.specs.Shipment.{onlyIf};
 ghost use Rattle.memory.specs.Number.{numberAt};
 ghost use Rattle.memory.specs.Layout.{size};
 ghost use Rattle.memory.specs.Rows.{classTable};
-ghost use Rattle.sound.specs.Tally.{pairedIn, rowsFit, goAheadFits, sumsFit, moneyFits, moneysFit, judged};
+ghost use Rattle.sound.specs.Tally.{pairedIn, rowsFit, goAheadFits, isCovered, moneyFits, moneysFit, judged};
 ghost use Rattle.sound.specs.Walk.{soundAt, soundFrom};
 
 // Is the fee in range?
 fn is_fee_in_range(head: &[u8]) -> bool
     requires { ⌜ length (now head) ≡ 64 ⌝ }
-    ensures { λ r. ⌜ r ≡ leb (numberAt 4 (now (head .entry)) 24) orderCap ⌝ }
+    ensures { λ r. ⌜ r ≡ isOrderFee (numberAt 4 (now (head .entry)) 24) ⌝ }
 {
-    fee(head) <= Fee::ORDER_CAP
+    let fee = fee(head);
+    fee.is_order()
 }
 
 // May the shipment, Paired or not, have such rows?
@@ -67,40 +67,45 @@ fn does_go_ahead_fit(head: &[u8], tally: Tally) -> bool
 }
 
 // The fees of n orders.
-pub fn fees(head: &[u8], n: u64) -> u64
+pub fn fees(head: &[u8], n: u64) -> Fee
     requires { ⌜ (length (now head) ≡ 64) × (n ≤ 2_048) ⌝ }
-    ensures { λ r. ⌜ (r ≡ n * numberAt 4 (now (head .entry)) 24) × (r < 2 ^ 60) ⌝ }
+    ensures { λ r. ⌜ (r ≡ fee (n * numberAt 4 (now (head .entry)) 24)) × WithinSum (r .0) ⌝ }
 {
-    n * fee(head)
+    let fee = fee(head);
+    Fee::sum(n * fee.0)
 }
 
 // What is needed once the shipment is Paired, and nothing before.
-fn need_once_paired(head: &[u8], need: u64) -> u64
+fn need_once_paired(head: &[u8], need: Sum) -> Sum
     requires { ⌜ length (now head) ≡ 64 ⌝ }
-    ensures { λ r. ⌜ (r ≡ onlyIf (pairedIn (now (head .entry))) need) × (r ≤ need) ⌝ }
+    ensures { λ r. ⌜ r ≡ sumOf (moneyOfSum need) (onlyIf (pairedIn (now (head .entry))) (groszeIn need)) ⌝ }
 {
     if is_paired(head) {
         return need;
     }
-    0
+    Sum::of(need.money(), 0)
 }
 
-// Are the sums in range, what was accepted at least what was returned and is needed, and nothing returned while Waiting?
-fn do_sums_fit(accepted: u64, returned: u64, need: u64, waiting: bool) -> bool
-    requires { ⌜ need < 2 ^ 60 ⌝ }
-    ensures { λ r. ⌜ r ≡ sumsFit accepted returned need waiting ⌝ }
+// Is what was accepted at least what was returned and is needed, and nothing returned while Waiting?
+fn is_covered(accepted: Sum, returned: Sum, need: Sum, waiting: bool) -> bool
+    requires { ⌜ WithinSum (groszeIn returned) × WithinSum (groszeIn need) ⌝ }
+    ensures { λ r. ⌜ r ≡ isCovered (groszeIn accepted) (groszeIn returned) (groszeIn need) waiting ⌝ }
 {
-    accepted <= Amount::SUM_CAP
-        && (returned <= Amount::SUM_CAP
-            && (returned + need <= accepted && (!waiting || returned == 0)))
+    let back = returned.grosze();
+    let needed = need.grosze();
+    back + needed <= accepted.grosze() && (!waiting || back == 0)
 }
 
-// Do the sums of a money fit?
-fn does_money_fit(head: &[u8], money: Money, need: u64) -> bool
-    requires { ⌜ (length (now head) ≡ 64) × (need < 2 ^ 60) ⌝ }
-    ensures { λ r. ⌜ r ≡ moneyFits (now (head .entry)) money need ⌝ }
+// Do the sums of a money fit, for what is needed of it?
+fn does_money_fit(head: &[u8], need: Sum) -> bool
+    requires { ⌜ (length (now head) ≡ 64) × WithinSum (groszeIn need) ⌝ }
+    ensures { λ r. ⌜ r ≡ moneyFits (now (head .entry)) (moneyOfSum need) (groszeIn need) ⌝ }
 {
-    do_sums_fit(
+    let money = need.money();
+    if !has_sums_in_range(head, money) {
+        return false;
+    }
+    is_covered(
         accepted(head, money),
         returned(head, money),
         need_once_paired(head, need),
@@ -110,15 +115,16 @@ fn does_money_fit(head: &[u8], money: Money, need: u64) -> bool
 
 // Do the sums of both moneys fit a shipment of n orders?
 fn do_moneys_fit(head: &[u8], n: u64, tally: Tally) -> bool
-    requires { ⌜ (length (now head) ≡ 64) × (n ≤ 2_048) × (tally .amounts < 2 ^ 60) ⌝ }
+    requires { ⌜ (length (now head) ≡ 64) × (n ≤ 2_048) × WithinSum (tally .amounts .0) ⌝ }
     ensures { λ r. ⌜ r ≡ moneysFit (now (head .entry)) n tally ⌝ }
 {
-    does_money_fit(head, Money::K, tally.amounts) && does_money_fit(head, Money::O, fees(head, n))
+    let amounts = tally.amounts;
+    does_money_fit(head, Sum::Amounts(amounts)) && does_money_fit(head, Sum::Fees(fees(head, n)))
 }
 
 // Is a shipment of n orders sound, but for its name?
 fn judge(head: &[u8], n: u64, tally: Tally) -> bool
-    requires { ⌜ (length (now head) ≡ 64) × (n ≤ 2_048) × (tally .amounts < 2 ^ 60) ⌝ }
+    requires { ⌜ (length (now head) ≡ 64) × (n ≤ 2_048) × WithinSum (tally .amounts .0) ⌝ }
     ensures { λ r. ⌜ r ≡ judged (now (head .entry)) n tally ⌝ }
 {
     is_fee_in_range(head)

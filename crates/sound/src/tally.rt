@@ -3,10 +3,10 @@ use memory::row::amount;
 use memory::row::class;
 use memory::row::row_bytes;
 use money::Amount;
-use text::number::is_between;
 ghost use mathlib.Core.Path.{_≡_};
 ghost use Prim.Native.Nat.{_+_, _*_, _≤_, _<_, _^_};
 ghost use lib.ListN.{length};
+ghost use Rattle.money.specs.Money.{WithinSum};
 ghost use Rattle.memory.specs.Layout.{size};
 ghost use Rattle.memory.specs.Rows.{rowOf, classTable};
 ghost use Rattle.memory.specs.Read.{rowsFrom};
@@ -21,35 +21,36 @@ pub const OUT_OF_RANGE: u8 = 4;
 // What the rows of a shipment come to: the classes of their states joined, their amounts added up, and how many amounts are out of range.
 pub struct Tally {
     pub classes: u8,
-    pub amounts: u64,
+    pub amounts: Amount,
     pub out: u64,
 }
 
 // The tally with one row more.
 fn with_row(tally: Tally, row: &[u8], table: &[u8]) -> Tally
-    requires { ⌜ (length (now row) ≡ 8) × (now table ≡ classTable) × (tally .amounts < 2 ^ 60) × (tally .out < 2 ^ 60) ⌝ }
-    ensures { λ r. ⌜ (r ≡ tallied tally (rowOf (now (row .entry)))) × (r .amounts < tally .amounts + 2 ^ 32) ⌝ }
+    requires { ⌜ (length (now row) ≡ 8) × (now table ≡ classTable) × WithinSum (tally .amounts .0 + 2 ^ 32) × (tally .out < 2 ^ 60) ⌝ }
+    ensures { λ r. ⌜ (r ≡ tallied tally (rowOf (now (row .entry)))) × (r .amounts .0 < tally .amounts .0 + 2 ^ 32) ⌝ }
 {
     let amount = amount(row);
-    let fits = is_between(1, Amount::ORDER_CAP, amount);
+    let fits = amount.is_order();
     let classes = tally.classes | class(row, table);
-    let amounts = tally.amounts + amount;
+    let amounts = Amount::sum(tally.amounts.0 + amount.0);
     let out = tally.out + !fits as u64;
     Tally {
-        classes: classes,
-        amounts: amounts,
-        out: out,
+        classes,
+        amounts,
+        out,
     }
 }
 
 // The tally of the n rows from the k-th on, by the table of classes.
 pub fn tally_by(memory: &[u8], k: usize, n: usize, table: &[u8]) -> Tally
     requires { ⌜ (k + n ≤ 2_048) × (size ≤ length (now memory)) × (now table ≡ classTable) ⌝ }
-    ensures { λ r. ⌜ (r ≡ tallyOf (rowsFrom (now (memory .entry)) k n)) × (r .amounts ≤ n * 2 ^ 32) ⌝ }
+    ensures { λ r. ⌜ (r ≡ tallyOf (rowsFrom (now (memory .entry)) k n)) × (r .amounts .0 ≤ n * 2 ^ 32) ⌝ }
 {
+    let nothing = Amount::sum(0);
     let mut tally = Tally {
         classes: 0,
-        amounts: 0,
+        amounts: nothing,
         out: 0,
     };
     let mut i = k;

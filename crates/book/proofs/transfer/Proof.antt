@@ -5,11 +5,9 @@ use Rattle.book.specs.Place.{namedIn, Seeks}
 use Rattle.model.specs.Calls.{Transfer, transferred}
 use Rattle.epe.specs.declared.name.Title.{Title}
 use Rattle.epe.specs.Questions.{isPassed}
-use Rattle.money.specs.Money.{sumCap}
-use Rattle.text.proofs.Branches.{and-right}
-use lib.Dec.{leb}
-use borrow.Author.Tests.{not-true, not-false, leb-true}
+use borrow.Author.Tests.{not-true, not-false}
 use mathlib.Core.Path.{refl, sym, ap, subst, _∙_}
+use Rattle.money.proofs.Sums.{no-transfer, a-transfer, transfer-within, grosze-is, money-is}
 use borrow.Author.Needs.{needs}
 use Rattle.book.proofs.transfer.Statement.{statement}
 use Rattle.book.proofs.transfer.Tie as tie
@@ -38,37 +36,41 @@ returns-2 c =
     let read = passed .before in
     let else-sound = read .before in
     let sound = else-sound .before in
-    does-refused (sym (sound .is-sound .ensures) ∙ not-false _ (else-sound .if1 .left)) (title-refused _ _ (sym (passed .is-passed .ensures ∙ ap (λ (read : Title). isPassed (read .verdict)) (read .read-title .ensures)) ∙ not-true _ (c .if2 .taken)))
+    does-refused (sym (sound .is-sound .ensures) ∙ not-false _ (else-sound .if1 .left))
+    (title-refused _ _ (sym (passed .is-passed .ensures ∙ ap (λ (read : Title). isPassed (read .verdict)) (read .read-title .ensures)) ∙ not-true _ (c .if2 .taken)))
 
-is-between-requires : tie.Need-is-between-requires
-is-between-requires c κs = search needs
+of-transfer-requires : tie.Need-of-transfer-requires
+of-transfer-requires c κs = search needs
+
+enum-known-sum : tie.Need-enum-known-sum
+enum-known-sum c = search needs
+
+enum-told : tie.Need-enum-told
+enum-told c = search needs
 
 same-length-3 : tie.Need-same-length-3
 same-length-3 c = search needs
 
 returns-3 : tie.Need-returns-3
 returns-3 c =
-    let within = c .before in
-    let titled = within .before in
+    let asked = c .before .before in
+    let titled = asked .before in
     let passed = titled .before in
     let read = passed .before in
     let else-sound = read .before in
     let sound = else-sound .before in
     does-refused (sym (sound .is-sound .ensures) ∙ not-false _ (else-sound .if1 .left))
-    (amount-refused _ _ (sym (passed .is-passed .ensures ∙ ap (λ (read : Title). isPassed (read .verdict)) (read .read-title .ensures)) ∙ not-false _ (titled .if2 .left)) (sym (within .is-between .ensures) ∙ not-true _ (c .if3 .taken)))
+    (amount-refused _ _ (sym (passed .is-passed .ensures ∙ ap (λ (read : Title). isPassed (read .verdict)) (read .read-title .ensures)) ∙ not-false _ (titled .if2 .left)) (no-transfer _ _ (sym (c .enum-told .given .1) ∙ asked .of-transfer .ensures)))
 
 transfer-to-requires : tie.Need-transfer-to-requires
 transfer-to-requires c κs =
-    let fits = c .before .before in
-    let within = fits .before in
-    let passed = within .before .before in
-    let read = passed .before in
+    let taken = c .before .before .before in
+    let asked = taken .before .before in
+    let read = asked .before .before .before in
     let else-sound = read .before in
     let sound = else-sound .before in
-    let amount = sound .before .before .before .before .args .amount in (
-      sym (sound .is-sound .ensures) ∙ not-false _ (else-sound .if1 .left),
-      leb-true amount sumCap (and-right (leb 1 amount) (leb amount sumCap) (sym (within .is-between .ensures) ∙ not-false _ (fits .if3 .left))),
-    )
+    let one = a-transfer _ _ (sym (taken .sum .given .1) ∙ asked .of-transfer .ensures) in
+    (sym (sound .is-sound .ensures) ∙ not-false _ (else-sound .if1 .left), rw (grosze-is _ _ (one .1)) (transfer-within (read .read-title .result .money) _ (one .0)))
 
 same-length-4 : tie.Need-same-length-4
 same-length-4 c = search needs
@@ -76,18 +78,20 @@ same-length-4 c = search needs
 returns-4 : tie.Need-returns-4
 returns-4 c =
     let to = c .before .before in
-    let fits = to .before .before .before in
-    let within = fits .before in
-    let titled = within .before in
+    let taken = to .before .before .before .before in
+    let asked = taken .before .before in
+    let titled = asked .before in
     let passed = titled .before in
     let read = passed .before in
     let else-sound = read .before in
     let sound = else-sound .before in
     let start = sound .before .before .before .before .args in
-    let seeks = seeks-named (start .title .now) (start .amount) (sym (passed .is-passed .ensures ∙ ap (λ (read : Title). isPassed (read .verdict)) (read .read-title .ensures)) ∙ not-false _ (titled .if2 .left)) (sym (within .is-between .ensures) ∙ not-false _ (fits .if3 .left)) in
+    let one = a-transfer _ _ (sym (taken .sum .given .1) ∙ asked .of-transfer .ensures) in
+    let seeks = seeks-named (start .title .now) (start .amount) (sym (passed .is-passed .ensures ∙ ap (λ (read : Title). isPassed (read .verdict)) (read .read-title .ensures)) ∙ not-false _ (titled .if2 .left)) (one .0) in
     to .transfer-to .ensures .by-call _
+    (rw (money-is _ _ (one .1), grosze-is _ _ (one .1))
     (subst (λ (read : Title). Seeks (namedIn (read .name)) (transferred (read .money) (start .amount)) (Transfer (start .title .now) (start .amount)))
-    (sym (read .read-title .ensures)) seeks)
+    (sym (read .read-title .ensures)) seeks))
 
 pub transfer-spec : {M : Type 1} → statement M
 transfer-spec =
@@ -100,7 +104,9 @@ transfer-spec =
     is-passed-requires
     same-length-2
     returns-2
-    is-between-requires
+    of-transfer-requires
+    enum-known-sum
+    enum-told
     same-length-3
     returns-3
     transfer-to-requires

@@ -6,7 +6,7 @@ use Rattle.book.proofs.enter.enter.Statement.{statement}
 use Rattle.book.proofs.enter.enter.Tie as tie
 
 enter-orders-requires : tie.Need-enter-orders-requires
-enter-orders-requires c κs = let fits = c .before .before .before .pre in (fits .room, fits .enough, fits .all, fits .in-range)
+enter-orders-requires c κs = let fits = c .before .before .before .pre in (fits .room, fits .enough, fits .in-range)
 
 enter-head-requires : tie.Need-enter-head-requires
 enter-head-requires c κs =

@@ -23,17 +23,14 @@ add-enter-order : tie.Need-add-enter-order Inv-loop μ-loop
 add-enter-order c = search needs
 
 order-in-requires : tie.Need-order-in-requires Inv-loop μ-loop
-order-in-requires c κs =
-    let turn = c .before in
-    let start = turn .before .before .before .before in
-    omega (arith, turn .loop-test .taken, start .pre .2)
+order-in-requires c κs = search needs
 
 enter-order-requires : tie.Need-enter-order-requires Inv-loop μ-loop
 enter-order-requires c κs =
     let turn = c .before .before in
     let loop = turn .before .loop in
     let start = turn .before .before .before .before in
-    let range = kept-in-range (start .args .kept .now) (start .args .n) (loop .done) (start .pre .3) (turn .loop-test .taken) (c .order-in .ensures) in
+    let range = kept-in-range (start .args .kept .now) (start .args .n) (loop .done) (start .pre .2) (turn .loop-test .taken) (c .order-in .ensures) in
     (omega (arith, turn .loop-test .taken, start .pre .0), rw (loop .inv .0 .only 0 .as-long) (start .pre .1), range .0, range .1)
 
 add-done : tie.Need-add-done Inv-loop μ-loop

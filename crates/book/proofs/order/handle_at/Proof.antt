@@ -1,4 +1,5 @@
 -- `book::order::handle_at` asks document 01's questions in turn.
+use Rattle.money.specs.declared.Fee.{Fee}
 use Rattle.memory.specs.Rows.{rowOf}
 use mathlib.Core.Path.{_∙_, ap}
 use native.Mathlib.Omega.{arith}
@@ -147,7 +148,7 @@ returns-4 c =
     (handled-at (start .args .memory .now) (start .args .i) (start .args .k) (start .args .deed) (start .args .number)
     (head .head-bytes .ensures .0) (paired .is-paired .ensures) (not-false _ (else-paired .if1 .left)) (counted .orders .ensures .0) (asked .is-between .ensures)
     (not-false _ (else-within .if2 .left)) (row .read-row .ensures ∙ ap rowOf (row .before .row-bytes .ensures .0)) (fitted .does-fit .ensures)
-    (start .pre) _ (paired .before .fee .ensures .0) (not-false _ (else-fit .if3 .left)))
+    (start .pre) _ (ap (λ (one : Fee). one .0) (paired .before .fee .ensures .0)) (not-false _ (else-fit .if3 .left)))
 
 pub handle-at-spec : {M : Type 1} → statement M
 handle-at-spec =

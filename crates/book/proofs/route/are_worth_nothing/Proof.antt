@@ -13,7 +13,7 @@ returns : tie.Need-returns
 returns c = search needs
 
 returns-2 : tie.Need-returns-2
-returns-2 c = rw (c .enum-told2 .given .1)
+returns-2 c = rw (c .before .enum-told2 .given .1)
 
 pub are-worth-nothing-spec : {M : Type 1} → statement M
 are-worth-nothing-spec = tie.close (tie.spec enum-told enum-told-2 returns returns-2)

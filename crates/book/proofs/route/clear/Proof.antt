@@ -4,15 +4,15 @@ use Prim.Native.Nat.{_-_, _*_, _^_, _≤_}
 use native.Mathlib.Omega.{arith}
 use Rattle.model.specs.declared.Route.{Route}
 use Rattle.memory.specs.Rows.{WaitTable}
-use Rattle.book.proofs.Returns.{Clearing, none-cleared, one-more-cleared, all-cleared}
+use Rattle.book.proofs.Returns.{Clearing, none-cleared, one-more-cleared, worth-is, all-cleared}
 use borrow.Author.Needs.{needs}
 use Rattle.book.proofs.route.clear.Statement.{statement}
 use Rattle.book.proofs.route.clear.Tie as tie
 
 abbrev Inv-loop : tie.InvT-loop
 Inv-loop memory₀ k n money fee table taken₀ done₀ memory taken done =
-    ((route : Route) → WaitTable route money table → Clearing route money fee k done memory₀ memory taken)
-    × (done ≤ n) × (taken .sum ≤ done * 2 ^ 34) × (taken .count ≤ done * 2)
+    ((route : Route) → WaitTable route money table → Clearing route money (fee .0) k done memory₀ memory taken)
+    × (done ≤ n) × (taken .worth ≤ done * 2 ^ 34) × (taken .count ≤ done * 2)
 
 abbrev μ-loop : tie.MeasureT-loop
 μ-loop memory₀ k n money fee table taken₀ done₀ memory taken done = n - done
@@ -64,24 +64,33 @@ wait-of-requires c κs = search needs
 cast-wait : tie.Need-cast-wait Inv-loop μ-loop
 cast-wait c = search needs
 
-div-sum : tie.Need-div-sum Inv-loop μ-loop
-div-sum c = search needs
+div-of : tie.Need-div-of Inv-loop μ-loop
+div-of c = search needs
+
+of-requires : tie.Need-of-requires Inv-loop μ-loop
+of-requires c κs =
+    let wait = c .before in
+    let turn = wait .before .before in
+    let start = turn .before .before .before in
+    let all : turn .loop .done ≡ start .args .n = omega (arith, wait .before .loop-test .left) in
+    let cleared = rw all at (turn .loop .inv .0 (start .args .route) (turn .before .wait-table .ensures)) in
+    rw (worth-is cleared (wait .wait-of .ensures .0)) (start .pre .3)
 
 div-count : tie.Need-div-count Inv-loop μ-loop
 div-count c = search needs
 
 same-length : tie.Need-same-length Inv-loop μ-loop
 same-length c =
-    let turn = c .before .before .before .before in
+    let turn = c .before .before .before .before .before in
     turn .loop .inv .0 (turn .before .before .before .args .route) (turn .before .wait-table .ensures) .returned .only 0 .as-long
 
 returns : tie.Need-returns Inv-loop μ-loop
 returns c =
-    let wait = c .before .before in
+    let wait = c .before .before .before in
     let turn = wait .before .before in
     let args = turn .before .before .before .args in
     let all : turn .loop .done ≡ args .n = omega (arith, wait .before .loop-test .left) in
-    all-cleared (rw all at (turn .loop .inv .0 (args .route) (turn .before .wait-table .ensures))) (wait .wait-of .ensures .0)
+    all-cleared (rw all at (turn .loop .inv .0 (args .route) (turn .before .wait-table .ensures))) (wait .wait-of .ensures .0) (c .before .of .ensures)
 
 pub clear-spec : {M : Type 1} → statement M
 clear-spec =
@@ -99,7 +108,8 @@ clear-spec =
     loop-again
     wait-of-requires
     cast-wait
-    div-sum
+    div-of
+    of-requires
     div-count
     same-length
     returns)

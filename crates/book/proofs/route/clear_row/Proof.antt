@@ -2,7 +2,7 @@
 use mathlib.Core.Path.{refl, ap, _∙_}
 use Prim.Native.Nat.{_+_, _*_}
 use native.Mathlib.Omega.{arith}
-use Rattle.model.specs.Shipment.{worth}
+use Rattle.model.specs.Shipment.{worth as worthOf}
 use Rattle.memory.specs.Rows.{rowOf}
 use Rattle.book.proofs.Returns.{twice-at-most}
 use borrow.Author.Needs.{needs}
@@ -43,12 +43,12 @@ returns c =
     let read = priced .before in
     let args = read .before .before .before .before .args in
     let took = stored .store-return .result in
-    let worth-is = priced .worth-of .ensures .0 ∙ ap (λ row. worth (args .money) (args .fee) (rowOf row)) (read .row-bytes .ensures .0) in
+    let worth-is = priced .worth-of .ensures .0 ∙ ap (λ row. worthOf (args .money) (args .fee .0) (rowOf row)) (read .row-bytes .ensures .0) in
     let twice = twice-at-most (priced .worth-of .result) took (stored .store-return .ensures .1) in (
       λ route is. record {
         taken = took;
         row = stored .store-return .ensures .0 route (args .money) is;
-        added = ap (λ n. args .taken .sum + n * took) worth-is;
+        added = ap (λ n. args .taken .worth + n * took) worth-is;
         counted = refl;
       },
       omega arith,

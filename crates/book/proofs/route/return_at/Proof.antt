@@ -1,6 +1,10 @@
 -- `book::route::return_at` asks document 01's questions in turn.
-use Rattle.book.proofs.Returns.{room-at, unpaired-at, undelivered-fee-at, worthless-at, nothing-at, returned-at}
+use Rattle.money.specs.declared.Fee.{Fee}
+use Rattle.money.proofs.Sums.{money-is}
+use Rattle.book.specs.Answers.{returningOf}
+use Rattle.book.proofs.Returns.{waiting-within, room-at, unpaired-at, undelivered-fee-at, worthless-at, nothing-at, returned-at}
 use borrow.Author.Tests.{not-true, not-false}
+use mathlib.Core.Path.{sym, ap, _∙_}
 use native.Mathlib.Omega.{arith}
 use borrow.Author.Needs.{needs}
 use Rattle.book.proofs.route.return_at.Statement.{statement}
@@ -61,24 +65,37 @@ returns-3 c =
     let start = head .before .before .before .args in
     worthless-at (start .memory .now) (start .i) (start .k) (head .head-bytes .ensures .0) (start .route) (start .money)
     (paired .is-paired .ensures) (not-false _ (else-paired .if1 .left)) (barred .is-zpr-with-o .ensures) (else-barred .if2 .left)
-    (priced .fee .ensures .0) (worth .are-worth-nothing .ensures) (c .if3 .taken)
+    (ap (λ (one : Fee). one .0) (priced .fee .ensures .0)) (worth .are-worth-nothing .ensures) (c .if3 .taken)
 
 clear-requires : tie.Need-clear-requires
 clear-requires c κs =
-    let counted = c .before .before .before .before in
-    let head = counted .before .before .before .before .before in
-    let start = head .before .before .before in (
-      room-at (start .args .memory .now) (start .args .i) (start .args .k) (head .head-bytes .ensures .0) (counted .orders .ensures .0) (start .pre),
+    let worth = c .before .before in
+    let priced = worth .before in
+    let counted = priced .before in
+    let else-barred = counted .before in
+    let barred = else-barred .before in
+    let else-paired = barred .before in
+    let paired = else-paired .before in
+    let head = paired .before in
+    let start = head .before .before .before in
+    let is-head = head .head-bytes .ensures .0 in (
+      room-at (start .args .memory .now) (start .args .i) (start .args .k) is-head (counted .orders .ensures .0) (start .pre),
       search needs,
       search needs,
+      waiting-within (start .args .memory .now) (start .args .i) (start .args .k) is-head (start .args .route) (start .args .money)
+          (paired .is-paired .ensures) (not-false _ (else-paired .if1 .left)) (barred .is-zpr-with-o .ensures) (else-barred .if2 .left)
+          (ap (λ (one : Fee). one .0) (priced .fee .ensures .0)) (worth .are-worth-nothing .ensures) (counted .orders .ensures .0) (start .pre),
     )
+
+grosze-requires : tie.Need-grosze-requires
+grosze-requires c κs = search needs
 
 same-length-4 : tie.Need-same-length-4
 same-length-4 c = search needs
 
 returns-4 : tie.Need-returns-4
 returns-4 c =
-    let cleared = c .before .before .before in
+    let cleared = c .before .before .before .before in
     let else-worth = cleared .before .before in
     let worth = else-worth .before in
     let priced = worth .before in
@@ -91,8 +108,8 @@ returns-4 c =
     let start = head .before .before .before in
     nothing-at (start .args .memory .now) (start .args .i) (start .args .k) (head .head-bytes .ensures .0) (start .args .route) (start .args .money)
     (paired .is-paired .ensures) (not-false _ (else-paired .if1 .left)) (barred .is-zpr-with-o .ensures) (else-barred .if2 .left)
-    (priced .fee .ensures .0) (worth .are-worth-nothing .ensures) (else-worth .if3 .left)
-    (counted .orders .ensures .0) (start .pre) (cleared .clear .ensures) (c .if4 .taken)
+    (ap (λ (one : Fee). one .0) (priced .fee .ensures .0)) (worth .are-worth-nothing .ensures) (else-worth .if3 .left)
+    (counted .orders .ensures .0) (start .pre) (cleared .clear .ensures) (sym (c .before .grosze .ensures) ∙ c .if4 .taken)
 
 returning-requires : tie.Need-returning-requires
 returning-requires c κs = search needs
@@ -103,7 +120,7 @@ same-length-5 c = search needs
 returns-5 : tie.Need-returns-5
 returns-5 c =
     let else-nothing = c .before in
-    let cleared = else-nothing .before .before .before in
+    let cleared = else-nothing .before .before .before .before in
     let else-worth = cleared .before .before in
     let worth = else-worth .before in
     let priced = worth .before in
@@ -114,11 +131,12 @@ returns-5 c =
     let paired = else-paired .before in
     let head = paired .before in
     let start = head .before .before .before in
-    rw (c .returning .ensures)
+    let answered = ap (λ money. returningOf money (c .returning .result)) (sym (money-is (start .args .money) _ (cleared .clear .ensures .sum))) ∙ c .returning .ensures in
+    rw answered
     (returned-at (start .args .memory .now) (start .args .i) (start .args .k) (head .head-bytes .ensures .0) (start .args .route) (start .args .money)
     (paired .is-paired .ensures) (not-false _ (else-paired .if1 .left)) (barred .is-zpr-with-o .ensures) (else-barred .if2 .left)
-    (priced .fee .ensures .0) (worth .are-worth-nothing .ensures) (else-worth .if3 .left)
-    (counted .orders .ensures .0) (start .pre) (cleared .clear .ensures) (omega (arith, else-nothing .if4 .left)))
+    (ap (λ (one : Fee). one .0) (priced .fee .ensures .0)) (worth .are-worth-nothing .ensures) (else-worth .if3 .left)
+    (counted .orders .ensures .0) (start .pre) (cleared .clear .ensures) (omega (arith, else-nothing .if4 .left, else-nothing .before .grosze .ensures)))
 
 pub return-at-spec : {M : Type 1} → statement M
 return-at-spec =
@@ -137,6 +155,7 @@ return-at-spec =
     same-length-3
     returns-3
     clear-requires
+    grosze-requires
     same-length-4
     returns-4
     returning-requires

@@ -1,19 +1,22 @@
--- `book::route::returning` is of the money it was asked for.
+-- `book::route::returning` goes by the money of the sum.
+use Rattle.money.specs.Money.{groszeIn, moneyOfSum}
 use borrow.Author.Needs.{needs}
 use Rattle.book.proofs.route.returning.Statement.{statement}
 use Rattle.book.proofs.route.returning.Tie as tie
 
-enum-told : tie.Need-enum-told
-enum-told c = search needs
+enum-known-sum : tie.Need-enum-known-sum
+enum-known-sum c = search needs
 
-enum-told-2 : tie.Need-enum-told-2
-enum-told-2 c = search needs
+enum-known-sum-2 : tie.Need-enum-known-sum-2
+enum-known-sum-2 c = search needs
 
 returns : tie.Need-returns
-returns c = rw (c .enum-told .given .1)
+unfolding groszeIn moneyOfSum
+returns c = rw (c .before .sum .given .1)
 
 returns-2 : tie.Need-returns-2
-returns-2 c = rw (c .enum-told2 .given .1)
+unfolding groszeIn moneyOfSum
+returns-2 c = rw (c .before .sum2 .given .1)
 
 pub returning-spec : {M : Type 1} → statement M
-returning-spec = tie.close (tie.spec enum-told enum-told-2 returns returns-2)
+returning-spec = tie.close (tie.spec enum-known-sum enum-known-sum-2 returns returns-2)

@@ -1,17 +1,22 @@
 -- `book::rows::amounts_in` adds amount after amount.
-use Rattle.book.proofs.RowWalks.{Adding, adding-begun, adding-on, adding-done}
+use mathlib.Core.Path.{ap}
+use Rattle.money.specs.Money.{amount}
 use borrow.Author.Needs.{needs}
+use Rattle.book.proofs.RowWalks.{Adding, adding-begun, adding-on, adding-done, adding-within}
 use Rattle.book.proofs.rows.amounts_in.Statement.{statement}
 use Rattle.book.proofs.rows.amounts_in.Tie as tie
 
 abbrev Inv-loop : tie.InvT-loop
-Inv-loop memory k n sum₀ i₀ left₀ sum i left = Adding memory k n sum i left
+Inv-loop memory k n sum₀ i₀ left₀ sum i left = Adding memory k n (sum .0) i left
 
 abbrev μ-loop : tie.MeasureT-loop
 μ-loop memory k n sum₀ i₀ left₀ sum i left = left
 
+sum-requires : tie.Need-sum-requires Inv-loop μ-loop
+sum-requires c κs = search needs
+
 loop-holds : tie.Need-loop-holds Inv-loop μ-loop
-loop-holds c = adding-begun
+loop-holds c = rw (c .sum .ensures) adding-begun
 
 row-bytes-requires : tie.Need-row-bytes-requires Inv-loop μ-loop
 row-bytes-requires c κs = search needs
@@ -21,6 +26,9 @@ amount-requires c κs = search needs
 
 add-sum : tie.Need-add-sum Inv-loop μ-loop
 add-sum c = search needs
+
+sum-requires-2 : tie.Need-sum-requires-2 Inv-loop μ-loop
+sum-requires-2 c κs = search needs
 
 add-i : tie.Need-add-i Inv-loop μ-loop
 add-i c = search needs
@@ -33,12 +41,29 @@ loop-less c = search needs
 
 loop-again : tie.Need-loop-again Inv-loop μ-loop
 loop-again c =
-    let row = c .before in
-    adding-on (row .before .before .loop .inv) (row .before .loop-test .taken) (row .row-bytes .ensures .0) (c .amount .ensures .0) (c .amount .ensures .1)
+    let priced = c .before .before .before in
+    let row = priced .before in
+    adding-on (row .before .before .loop .inv) (row .before .loop-test .taken) (row .row-bytes .ensures .0) (priced .amount .ensures .0) (priced .amount .ensures .1) (c .sum2 .ensures)
 
 returns : tie.Need-returns Inv-loop μ-loop
-returns c = adding-done (c .before .loop .inv) (c .loop-test .left)
+returns c =
+    let loop = c .before .loop .inv in
+    (ap amount (adding-done loop (c .loop-test .left)), adding-within loop (search needs))
 
 pub amounts-in-spec : {M : Type 1} → statement M
 amounts-in-spec =
-    tie.close (tie.spec Inv-loop μ-loop loop-holds row-bytes-requires amount-requires add-sum add-i sub-left loop-less loop-again returns)
+    tie.close
+    (tie.spec
+    Inv-loop
+    μ-loop
+    sum-requires
+    loop-holds
+    row-bytes-requires
+    amount-requires
+    add-sum
+    sum-requires-2
+    add-i
+    sub-left
+    loop-less
+    loop-again
+    returns)

@@ -1,4 +1,4 @@
--- `book::shipment::is_short` asks for either.
+-- `book::shipment::is_short` asks K, then O.
 use Rattle.text.proofs.Branches.{branches}
 use Rattle.book.proofs.shipment.is_short.Statement.{statement}
 use Rattle.book.proofs.shipment.is_short.Tie as tie

@@ -1,4 +1,6 @@
 -- `book::shipment::pair_at` asks 15 and 18, then whether anything is missing.
+use Rattle.money.specs.declared.Money.the-variants.{K, O}
+use Rattle.memory.proofs.HeadFields.{accepted-within}
 use Rattle.book.proofs.PairingActs.{no-pairing-at, faults-at, short-at, paired-at}
 use Rattle.book.proofs.Needs.{room-at, few-at, rows-waiting}
 use borrow.Author.Tests.{not-true, not-false}
@@ -60,11 +62,14 @@ amounts-in-requires c κs =
     let start = head .before .before .before in
     (room-at _ (start .args .i) _ (start .pre) (head .head-bytes .ensures .0) (counted .orders .ensures .0), start .pre .enough)
 
-accepted-requires : tie.Need-accepted-requires
-accepted-requires c κs = search needs
+amounts-accepted-requires : tie.Need-amounts-accepted-requires
+amounts-accepted-requires c κs =
+    let head = c .before .before .before .before .before .before in
+    let start = head .before .before .before in
+    (head .head-bytes .ensures .1, accepted-within _ (start .args .i) (start .args .k) (head .head-bytes .ensures .0) (start .pre) K)
 
-missing-requires : tie.Need-missing-requires
-missing-requires c κs = search needs
+less-requires : tie.Need-less-requires
+less-requires c κs = search needs
 
 fees-requires : tie.Need-fees-requires
 fees-requires c κs =
@@ -75,11 +80,14 @@ fees-requires c κs =
     let start = head .before .before .before in
     (head .head-bytes .ensures .1, few-at _ (start .args .i) (start .args .k) (start .pre) (head .head-bytes .ensures .0) (counted .orders .ensures .0))
 
-accepted-requires-2 : tie.Need-accepted-requires-2
-accepted-requires-2 c κs = search needs
+fees-accepted-requires : tie.Need-fees-accepted-requires
+fees-accepted-requires c κs =
+    let head = c .before .before .before .before .before .before .before .before .before in
+    let start = head .before .before .before in
+    (head .head-bytes .ensures .1, accepted-within _ (start .args .i) (start .args .k) (head .head-bytes .ensures .0) (start .pre) O)
 
-missing-requires-2 : tie.Need-missing-requires-2
-missing-requires-2 c κs = search needs
+less-requires-2 : tie.Need-less-requires-2
+less-requires-2 c κs = search needs
 
 is-short-requires : tie.Need-is-short-requires
 is-short-requires c κs = search needs
@@ -105,11 +113,15 @@ returns-3 c =
     let start = head .before .before .before in
     short-at _ _ _ (start .pre) (head .head-bytes .ensures .0) (waiting .is-waiting .ensures) (not-false _ (else-waiting .if1 .left))
     (counted .orders .ensures .0) (asked .may-pair .ensures) (not-false _ (may .if2 .left))
-    (amount .missing .ensures) (fee .missing2 .ensures)
-    (amounts .amounts-in .ensures) (fees .fees .ensures .0) (k-in .accepted .ensures) (o-in .accepted2 .ensures) (short .is-short .ensures) (c .if3 .taken)
+    (amount .less .ensures) (fee .less2 .ensures)
+    (amounts .amounts-in .ensures .0) (fees .fees .ensures .0) (k-in .amounts-accepted .ensures) (o-in .fees-accepted .ensures) (short .is-short .ensures) (c .if3 .taken)
 
 store-stage-requires : tie.Need-store-stage-requires
-store-stage-requires c κs = search needs
+store-stage-requires c κs =
+    let may = c .before .before .before .before .before .before .before .before .before in
+    let head = may .before .before .before .before .before in
+    let start = head .before .before .before in
+    (start .pre .few, start .pre .enough)
 
 same-length-4 : tie.Need-same-length-4
 same-length-4 c = search needs
@@ -135,8 +147,8 @@ returns-4 c =
     rw (stored .store-stage .ensures)
     (paired-at _ _ _ (start .pre) (head .head-bytes .ensures .0) (waiting .is-waiting .ensures) (not-false _ (else-waiting .if1 .left))
     (counted .orders .ensures .0) (asked .may-pair .ensures) (not-false _ (may .if2 .left))
-    (amount .missing .ensures) (fee .missing2 .ensures)
-    (amounts .amounts-in .ensures) (fees .fees .ensures .0) (k-in .accepted .ensures) (o-in .accepted2 .ensures) (short .is-short .ensures) (covered .if3 .left))
+    (amount .less .ensures) (fee .less2 .ensures)
+    (amounts .amounts-in .ensures .0) (fees .fees .ensures .0) (k-in .amounts-accepted .ensures) (o-in .fees-accepted .ensures) (short .is-short .ensures) (covered .if3 .left))
 
 pub pair-at-spec : {M : Type 1} → statement M
 pair-at-spec =
@@ -151,11 +163,11 @@ pair-at-spec =
     same-length-2
     returns-2
     amounts-in-requires
-    accepted-requires
-    missing-requires
+    amounts-accepted-requires
+    less-requires
     fees-requires
-    accepted-requires-2
-    missing-requires-2
+    fees-accepted-requires
+    less-requires-2
     is-short-requires
     same-length-3
     returns-3

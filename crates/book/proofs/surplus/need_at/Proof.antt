@@ -1,4 +1,7 @@
 -- `book::surplus::need_at` goes by the stage and the money.
+use mathlib.Core.Path.{ap, _∙_}
+use Rattle.money.specs.Money.{amount, fee, sumOf}
+use Rattle.money.specs.declared.Sum.the-variants.{Amounts, Fees}
 use Rattle.book.proofs.SurplusActs.{none-needed, needed}
 use Rattle.book.proofs.Needs.{room-at, few-at, need-in-fees, need-in-amounts}
 use Rattle.money.specs.declared.Money.the-variants.{K, O}
@@ -13,12 +16,17 @@ head-bytes-requires c κs = search needs
 is-paired-requires : tie.Need-is-paired-requires
 is-paired-requires c κs = search needs
 
+of-requires : tie.Need-of-requires
+of-requires c κs = search needs
+
 returns : tie.Need-returns
 returns c =
-    let paired = c .before in
+    let tested = c .before in
+    let paired = tested .before in
     let head = paired .before in
     let start = head .before .before in
-    none-needed _ _ _ (start .pre) (head .head-bytes .ensures .0) _ (paired .is-paired .ensures) (not-true _ (c .if1 .taken))
+    c .of .ensures
+    ∙ ap (sumOf (start .args .money)) (none-needed _ _ _ (start .pre) (head .head-bytes .ensures .0) _ (paired .is-paired .ensures) (not-true _ (tested .if1 .taken)))
 
 orders-requires : tie.Need-orders-requires
 orders-requires c κs = search needs
@@ -50,6 +58,7 @@ fees-requires c κs =
     (head .head-bytes .ensures .1, few-at _ (start .args .i) (start .args .k) (start .pre) (head .head-bytes .ensures .0) (counted .orders .ensures .0))
 
 returns-2 : tie.Need-returns-2
+unfolding sumOf
 returns-2 c =
     let told = c .before in
     let counted = told .before .before in
@@ -58,10 +67,11 @@ returns-2 c =
     let head = paired .before in
     let start = head .before .before in
     rw (told .enum-told .given .1)
-    (needed _ _ _ (start .pre) (head .head-bytes .ensures .0) K (paired .is-paired .ensures) (not-false _ (else-paired .if1 .left))
-    (need-in-amounts _ _ _ (start .pre) (head .head-bytes .ensures .0) (counted .orders .ensures .0) (c .amounts-in .ensures)))
+    (ap (λ grosze. Amounts (amount grosze)) (needed _ _ _ (start .pre) (head .head-bytes .ensures .0) K (paired .is-paired .ensures) (not-false _ (else-paired .if1 .left))
+    (need-in-amounts _ _ _ (start .pre) (head .head-bytes .ensures .0) (counted .orders .ensures .0) (c .amounts-in .ensures .0))))
 
 returns-3 : tie.Need-returns-3
+unfolding sumOf
 returns-3 c =
     let told = c .before in
     let counted = told .before .before in
@@ -70,8 +80,8 @@ returns-3 c =
     let head = paired .before in
     let start = head .before .before in
     rw (told .enum-told2 .given .1)
-    (needed _ _ _ (start .pre) (head .head-bytes .ensures .0) O (paired .is-paired .ensures) (not-false _ (else-paired .if1 .left))
-    (need-in-fees _ _ _ (start .pre) (head .head-bytes .ensures .0) (counted .orders .ensures .0) (c .fees .ensures .0)))
+    (ap (λ grosze. Fees (fee grosze)) (needed _ _ _ (start .pre) (head .head-bytes .ensures .0) O (paired .is-paired .ensures) (not-false _ (else-paired .if1 .left))
+    (need-in-fees _ _ _ (start .pre) (head .head-bytes .ensures .0) (counted .orders .ensures .0) (c .fees .ensures .0))))
 
 pub need-at-spec : {M : Type 1} → statement M
 need-at-spec =
@@ -79,6 +89,7 @@ need-at-spec =
     (tie.spec
     head-bytes-requires
     is-paired-requires
+    of-requires
     returns
     orders-requires
     enum-told

@@ -1,6 +1,10 @@
 -- `book::surplus::surplus_at` asks 24 and 23, then stores what has gone.
-use Rattle.book.proofs.SurplusActs.{still-waiting-at, no-surplus-at, fits-at, surplus-at}
+use mathlib.Core.Path.{sym, ap, _∙_}
 use native.Mathlib.Omega.{arith}
+use Rattle.money.proofs.Sums.{grosze-is, money-is}
+use Rattle.memory.proofs.HeadFields.{returned-within}
+use Rattle.book.specs.Answers.{returningOf}
+use Rattle.book.proofs.SurplusActs.{still-waiting-at, no-surplus-at, fits-at, surplus-at}
 use borrow.Author.Needs.{needs}
 use Rattle.book.proofs.surplus.surplus_at.Statement.{statement}
 use Rattle.book.proofs.surplus.surplus_at.Tie as tie
@@ -22,10 +26,16 @@ returns c =
     still-waiting-at _ _ _ (start .pre) (head .head-bytes .ensures .0) _ (waiting .is-waiting .ensures) (c .if1 .taken)
 
 returned-requires : tie.Need-returned-requires
-returned-requires c κs = search needs
+returned-requires c κs =
+    let head = c .before .before in
+    let start = head .before .before .before in
+    (head .head-bytes .ensures .1, returned-within _ (start .args .i) (start .args .k) (head .head-bytes .ensures .0) (start .pre) (start .args .money))
 
 free-at-requires : tie.Need-free-at-requires
 free-at-requires c κs = search needs
+
+grosze-requires : tie.Need-grosze-requires
+grosze-requires c κs = search needs
 
 same-length-2 : tie.Need-same-length-2
 same-length-2 c = search needs
@@ -33,23 +43,38 @@ same-length-2 c = search needs
 returns-2 : tie.Need-returns-2
 returns-2 c =
     let sum = c .before in
-    let gone = sum .before .before in
+    let gone = sum .before .before .before in
     let other = gone .before in
     let waiting = other .before in
     let head = waiting .before in
     let start = head .before .before .before in
-    no-surplus-at _ _ _ (start .pre) (head .head-bytes .ensures .0) _ (waiting .is-waiting .ensures) (other .if1 .left) (sum .free-at .ensures) (c .if2 .taken)
+    no-surplus-at _ _ _ (start .pre) (head .head-bytes .ensures .0) _ (waiting .is-waiting .ensures) (other .if1 .left) (sum .grosze .ensures ∙ grosze-is _ _ (sum .before .free-at .ensures)) (c .if2 .taken)
 
-add-store-returned : tie.Need-add-store-returned
-add-store-returned c =
-    let sum = c .before .before in
-    let gone = sum .before .before in
+grosze-requires-2 : tie.Need-grosze-requires-2
+grosze-requires-2 c κs = search needs
+
+add-of : tie.Need-add-of
+add-of c =
+    let gone2 = c in
+    let sum = gone2 .before .before .before in
+    let gone = sum .before .before .before in
     let other = gone .before in
     let waiting = other .before in
     let head = waiting .before in
     let start = head .before .before .before in
-    let within = fits-at _ _ (start .args .k) (start .pre) (head .head-bytes .ensures .0) (start .args .money) (waiting .is-waiting .ensures) (other .if1 .left) (sum .free-at .ensures) (gone .returned .ensures) in
+    let within = fits-at _ _ (start .args .k) (start .pre) (head .head-bytes .ensures .0) (start .args .money) (waiting .is-waiting .ensures) (other .if1 .left) (sum .grosze .ensures ∙ grosze-is _ _ (sum .before .free-at .ensures)) (gone2 .grosze2 .ensures ∙ grosze-is _ _ (gone .returned .ensures)) in
     record { fits = omega (arith, within) }
+
+of-requires : tie.Need-of-requires
+of-requires c κs =
+    let gone2 = c in
+    let sum = gone2 .before .before .before in
+    let gone = sum .before .before .before in
+    let other = gone .before in
+    let waiting = other .before in
+    let head = waiting .before in
+    let start = head .before .before .before in
+    fits-at _ _ (start .args .k) (start .pre) (head .head-bytes .ensures .0) (start .args .money) (waiting .is-waiting .ensures) (other .if1 .left) (sum .grosze .ensures ∙ grosze-is _ _ (sum .before .free-at .ensures)) (gone2 .grosze2 .ensures ∙ grosze-is _ _ (gone .returned .ensures))
 
 store-returned-requires : tie.Need-store-returned-requires
 store-returned-requires c κs = search needs
@@ -63,15 +88,18 @@ same-length-3 c = search needs
 returns-3 : tie.Need-returns-3
 returns-3 c =
     let stored = c .before .before .before in
-    let some = stored .before .before in
+    let made = stored .before in
+    let gone2 = made .before in
+    let some = gone2 .before .before in
     let sum = some .before in
-    let gone = sum .before .before in
+    let gone = sum .before .before .before in
     let other = gone .before in
     let waiting = other .before in
     let head = waiting .before in
     let start = head .before .before .before in
-    rw (c .returning .ensures, stored .store-returned .ensures)
-    (surplus-at _ _ _ (start .pre) (head .head-bytes .ensures .0) _ (waiting .is-waiting .ensures) (other .if1 .left) (sum .free-at .ensures) (gone .returned .ensures) (omega (arith, some .if2 .left)))
+    let answered = ap (λ money. returningOf money (c .returning .result)) (sym (money-is (start .args .money) _ (sum .before .free-at .ensures))) ∙ c .returning .ensures in
+    rw (answered, stored .store-returned .ensures, grosze-is _ _ (made .of .ensures), money-is _ _ (made .of .ensures), ← sum .grosze .ensures)
+    (surplus-at _ _ _ (start .pre) (head .head-bytes .ensures .0) _ (waiting .is-waiting .ensures) (other .if1 .left) (sum .grosze .ensures ∙ grosze-is _ _ (sum .before .free-at .ensures)) (gone2 .grosze2 .ensures ∙ grosze-is _ _ (gone .returned .ensures)) (omega (arith, some .if2 .left)))
 
 pub surplus-at-spec : {M : Type 1} → statement M
 surplus-at-spec =
@@ -83,9 +111,12 @@ surplus-at-spec =
     returns
     returned-requires
     free-at-requires
+    grosze-requires
     same-length-2
     returns-2
-    add-store-returned
+    grosze-requires-2
+    add-of
+    of-requires
     store-returned-requires
     returning-requires
     same-length-3

@@ -11,10 +11,10 @@ use Rattle.memory.proofs.enter.head_of.Statement.{statement}
 use Rattle.memory.proofs.enter.head_of.Tie as tie
 
 abbrev Inv-loop : tie.InvT-loop
-Inv-loop fee n bytes head₀ j₀ head j = (j ≤ 17) × (head ≡ take j bytes ++ drop j head₀)
+Inv-loop n bytes head₀ j₀ head j = (j ≤ 17) × (head ≡ take j bytes ++ drop j head₀)
 
 abbrev μ-loop : tie.MeasureT-loop
-μ-loop fee n bytes head₀ j₀ head j = 17 - j
+μ-loop n bytes head₀ j₀ head j = 17 - j
 
 fields-requires : tie.Need-fields-requires Inv-loop μ-loop
 fields-requires c κs = search needs

@@ -15,7 +15,7 @@ state-of-requires c κs = search needs
 
 returns : tie.Need-returns
 unfolding rowOf
-returns c = λ i. record { amount = record { 0 = c .before .before .amount .ensures .0 i }; state = c .state-of .ensures i }
+returns c = λ i. record { amount = c .before .before .amount .ensures .0 i; state = c .state-of .ensures i }
 
 pub read-row-spec : {M : Type 1} → statement M
 read-row-spec =

@@ -10,8 +10,11 @@ Inv-loop memory k n table tally₀ i₀ left₀ tally i left = Tallying memory k
 abbrev μ-loop : tie.MeasureT-loop
 μ-loop memory k n table tally₀ i₀ left₀ tally i left = left
 
+sum-requires : tie.Need-sum-requires Inv-loop μ-loop
+sum-requires c κs = search needs
+
 loop-holds : tie.Need-loop-holds Inv-loop μ-loop
-loop-holds c = tally-begun
+loop-holds c = rw (c .sum .ensures) tally-begun
 
 row-bytes-requires : tie.Need-row-bytes-requires Inv-loop μ-loop
 row-bytes-requires c κs = search needs
@@ -42,6 +45,7 @@ tally-by-spec =
     (tie.spec
     Inv-loop
     μ-loop
+    sum-requires
     loop-holds
     row-bytes-requires
     with-row-requires

@@ -3,14 +3,17 @@
 use mathlib.Core.Path.{_≡_, refl, ap, _∙_}
 use mathlib.Core.List.{List}
 use Prim.Native.Nat.{ℕ}
+use native.Mathlib.Omega.{arith}
 use lib.ListN.{getD}
+use Rattle.money.specs.Money.{WithinSum}
 use Rattle.money.specs.declared.Money.{Money}
 use Rattle.money.specs.declared.Money.the-variants.{K, O}
 use Rattle.model.specs.Shipment.{Shipment, accepted, returned, isWaiting, isPaired}
+use Rattle.model.proofs.SoundParts.{in-order}
 use Rattle.memory.specs.Number.{numberAt}
 use Rattle.memory.specs.Layout.{headBytes}
 use Rattle.memory.specs.Heads.{stageOf, goAheadIn, acceptedAt, returnedAt, shipmentIn}
-use Rattle.memory.specs.Read.{ordersAt, shipmentAt}
+use Rattle.memory.specs.Read.{ordersAt, shipmentAt, Sits}
 
 accepted-in : (m : List ℕ) (i k : ℕ) (money : Money) → numberAt 8 (headBytes m i) (acceptedAt money) ≡ accepted money (shipmentAt m i k)
 unfolding shipmentIn
@@ -50,3 +53,11 @@ module _ (m : List ℕ) (i k : ℕ) {head : List ℕ} (is-head : head ≡ headBy
 
   pub returned-is : (money : Money) → numberAt 8 head (returnedAt money) ≡ returned money s
   returned-is money = ap (λ bytes. numberAt 8 bytes (returnedAt money)) is-head ∙ returned-in m i k money
+
+  -- of a sound shipment both are sums
+  module _ (sits : Sits m i k) (money : Money) where
+    pub accepted-within : WithinSum (numberAt 8 head (acceptedAt money))
+    accepted-within = omega (arith, accepted-is money, in-order s (sits .sound) .moneys money .accepted-fits)
+
+    pub returned-within : WithinSum (numberAt 8 head (returnedAt money))
+    returned-within = omega (arith, returned-is money, in-order s (sits .sound) .moneys money .returned-fits)
