@@ -3,10 +3,11 @@
 use mathlib.Core.Path.{_≡_, refl, ap, _∙_}
 use mathlib.Core.Bool.{Bool, true, false, cond}
 use mathlib.Core.List.{List, [], _∷_}
-use Prim.Native.Nat.{ℕ, _+_, _*_, _-_, _^_, _≤_, _<_}
+use Prim.Native.Nat.{ℕ, _+_, _*_, _-_, _≤_}
 use native.Mathlib.Omega.{arith}
 use native.Mathlib.Nat.{mul-comm}
 use lib.ListN.{length}
+use Rattle.money.specs.Money.{WithinSum}
 use Rattle.money.specs.declared.Money.{Money}
 use Rattle.money.specs.declared.Money.the-variants.{K, O}
 use Rattle.model.specs.Shipment.{Shipment, accepted, returned, isPaired, onlyIf, sumOver, need, needOncePaired, free, holds, held}
@@ -16,11 +17,9 @@ use Rattle.model.proofs.SoundParts.{in-order}
 use Rattle.memory.specs.Number.{numberAt}
 use Rattle.memory.specs.Layout.{headBytes}
 use Rattle.memory.specs.Heads.{acceptedAt, returnedAt}
-use Rattle.memory.specs.Read.{shipmentAt}
-use Rattle.book.specs.Place.{Sits}
-use Rattle.book.proofs.HeadFields.{accepted-is, returned-is}
+use Rattle.memory.specs.Read.{shipmentAt, Sits}
+use Rattle.memory.proofs.HeadFields.{accepted-is, returned-is}
 use Rattle.sheet.specs.declared.row.Parts.{Parts}
-use Rattle.sheet.specs.declared.row.Division.{Division}
 use Rattle.sheet.specs.Sheet.{left}
 use Rattle.sheet.specs.Parts.{holdersOfRow, noParts, partsOf, partsOncePaired, divided, divisionOf}
 use Rattle.sheet.proofs.Balance.{balances}
@@ -36,7 +35,7 @@ fees-held-in fee (row ∷ rows) = by (holds O (row .state)) (sumOver holdersOfRo
 
 -- the parts of a shipment are its need and what it holds
 module _ (s : Shipment) {parts : Parts} (are : parts ≡ partsOncePaired s) where
-  parts-when : (paired : Bool) → isPaired (s .stage) ≡ paired → (parts .amounts ≡ needOncePaired K s) × (parts .held ≡ held K s)
+  parts-when : (paired : Bool) → isPaired (s .stage) ≡ paired → (parts .amounts .0 ≡ needOncePaired K s) × (parts .held .0 ≡ held K s)
       × (s .fee * parts .orders ≡ needOncePaired O s) × (s .fee * parts .holders ≡ held O s)
   unfolding partsOncePaired need held
   parts-when true paired =
@@ -46,10 +45,10 @@ module _ (s : Shipment) {parts : Parts} (are : parts ≡ partsOncePaired s) wher
       let none : parts ≡ noParts = are ∙ ap (λ t. cond t (partsOf (s .rows)) noParts) unpaired in
       rw (unpaired, none) (refl, refl, omega arith, omega arith)
 
-  pub amounts-needed : parts .amounts ≡ needOncePaired K s
+  pub amounts-needed : parts .amounts .0 ≡ needOncePaired K s
   amounts-needed = parts-when (isPaired (s .stage)) refl .0
 
-  pub amounts-held : parts .held ≡ held K s
+  pub amounts-held : parts .held .0 ≡ held K s
   amounts-held = parts-when (isPaired (s .stage)) refl .1
 
   module _ {fee : ℕ} (fee-known : fee ≡ s .fee) where
@@ -61,7 +60,7 @@ module _ (s : Shipment) {parts : Parts} (are : parts ≡ partsOncePaired s) wher
 
 -- and what was accepted is divided by them
 module _ (money : Money) (s : Shipment) (sound : shipmentSound s ≡ true) where
-  pub divisible : (returned money s + needOncePaired money s ≤ accepted money s) × (held money s ≤ returned money s + needOncePaired money s)
+  divisible : (returned money s + needOncePaired money s ≤ accepted money s) × (held money s ≤ returned money s + needOncePaired money s)
   unfolding free
   divisible =
       let covered = in-order s sound .moneys money .covered in
@@ -80,11 +79,19 @@ module _ (money : Money) (s : Shipment) (sound : shipmentSound s ≡ true) where
       }
 
   -- no sum is above what was accepted
-  pub need-fits : needOncePaired money s < 2 ^ 64
+  need-fits : WithinSum (needOncePaired money s)
   need-fits = omega (arith, in-order s sound .moneys money .covered, in-order s sound .moneys money .accepted-fits)
 
-  pub held-fits : held money s < 2 ^ 64
+  held-fits : WithinSum (held money s)
   held-fits = omega (arith, divisible .1, in-order s sound .moneys money .covered, in-order s sound .moneys money .accepted-fits)
+
+-- so the fees that code multiplies are sums
+module _ (s : Shipment) {parts : Parts} (are : parts ≡ partsOncePaired s) {fee : ℕ} (fee-known : fee ≡ s .fee) (sound : shipmentSound s ≡ true) where
+  pub fees-needed-fit : WithinSum (fee * parts .orders)
+  fees-needed-fit = omega (arith, need-fits O s sound, fees-needed s are fee-known)
+
+  pub fees-held-fit : WithinSum (fee * parts .holders)
+  fees-held-fit = omega (arith, held-fits O s sound, fees-held s are fee-known)
 
 -- as code reads a head
 module _ (m : List ℕ) (i k : ℕ) (sits : Sits m i k) {head : List ℕ} (is-head : head ≡ headBytes m i) (money : Money) {a r : ℕ}
@@ -99,10 +106,5 @@ module _ (m : List ℕ) (i k : ℕ) (sits : Sits m i k) {head : List ℕ} (is-he
   returned-known : r ≡ returned money s
   returned-known = r-is ∙ returned-is m i k is-head money
 
-  pub can-divide : (r + n ≤ a) × (h ≤ r + n)
-  can-divide =
-      let ways = divisible money s (sits .sound) in
-      (omega (arith, ways .0, accepted-known, returned-known, n-is), omega (arith, ways .1, returned-known, n-is, h-is))
-
-  pub division-is : {d : Division} → d ≡ divided a r n h → d ≡ divisionOf money s
-  division-is told = told ∙ (λ t. divided (accepted-known t) (returned-known t) (n-is t) (h-is t)) ∙ divided-is money s (sits .sound)
+  pub division-is : divided a r n h ≡ divisionOf money s
+  division-is = (λ t. divided (accepted-known t) (returned-known t) (n-is t) (h-is t)) ∙ divided-is money s (sits .sound)

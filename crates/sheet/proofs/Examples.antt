@@ -4,15 +4,16 @@ use mathlib.Core.Path.{_≡_, refl}
 use mathlib.Core.List.{[], _∷_, map}
 use mathlib.Core.Option.{Option, some, none}
 use Prim.Native.Nat.{ℕ}
+use Rattle.money.specs.Money.{amount, fee}
 use Rattle.model.specs.Book.{Book}
 use Rattle.model.specs.Demand.{bookAt}
 use Rattle.model.specs.Zs1.{calls, zs1}
-use Rattle.model.proofs.Zs1.{stepped}
+use Rattle.model.proofs.AboutZs1.{stepped}
 use Rattle.sheet.specs.declared.Sheeting.{Sheeting}
 use Rattle.sheet.specs.declared.Sheeting.the-variants.{Filled, Refused}
 use Rattle.sheet.specs.declared.SheetRow.{SheetRow}
 use Rattle.sheet.specs.declared.Totals.{Totals}
-use Rattle.sheet.specs.Sheet.{amount, fee, left, rowFor, plusAll, withinCap, askSheet, sheetOf}
+use Rattle.sheet.specs.Sheet.{left, rowFor, plusAll, withinCap, askSheet, sheetOf}
 use Rattle.sheet.specs.Zs1.{Zs1Sheet}
 
 pub zs1-sheet : Zs1Sheet

@@ -8,9 +8,8 @@ use native.Mathlib.Numerals.{add-one}
 use native.Mathlib.Omega.{arith}
 use Rattle.model.specs.Sound.{shipmentsSound}
 use Rattle.model.proofs.SoundParts.{halves}
-use Rattle.memory.specs.Read.{ordersAt, shipmentAt, shipmentsFrom, shipmentsIn, bookIn, soundIn}
+use Rattle.memory.specs.Read.{ordersAt, shipmentAt, shipmentsFrom, shipmentsIn, bookIn, soundIn, Sits}
 use Rattle.sound.proofs.ReadLaws.{rows-next, sound-parts}
-use Rattle.book.specs.Place.{Sits}
 use Rattle.sheet.specs.Sheet.{rowFor}
 use Rattle.sheet.specs.Filling.{Stands}
 

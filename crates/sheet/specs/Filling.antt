@@ -6,11 +6,11 @@ use mathlib.Core.Option.{Option, some, none}
 use Prim.Native.Nat.{ℕ, zero, suc, _+_, _≤_, _<_}
 use lib.Dec.{eqb, leb, ltb}
 use lib.ListN.{length, set}
+use Rattle.money.specs.Money.{WithinTotal}
 use Rattle.model.specs.Book.{Book, rowsIn}
 use Rattle.model.specs.Sound.{shipmentsSound}
 use Rattle.memory.specs.Layout.{size}
-use Rattle.memory.specs.Read.{ordersAt, shipmentAt, shipmentsFrom, shipmentsIn}
-use Rattle.book.specs.Place.{Sits}
+use Rattle.memory.specs.Read.{ordersAt, shipmentAt, shipmentsFrom, shipmentsIn, Sits}
 use Rattle.sheet.specs.declared.Amounts.{Amounts}
 use Rattle.sheet.specs.declared.Fees.{Fees}
 use Rattle.sheet.specs.declared.Line.{Line}
@@ -30,24 +30,24 @@ pub record Stands (m : List ℕ) (i k n : ℕ) : Type 0 where
   pub rows : k + rowsIn (shipmentsFrom m i k n) ≤ 2_048
   pub sound : shipmentsSound (shipmentsFrom m i k n) ≡ true
 
--- Four sums within a bound.
-pub record Within (bound a b c d : ℕ) : Type 0 where
-  pub first : a ≤ bound
-  pub second : b ≤ bound
-  pub third : c ≤ bound
-  pub fourth : d ≤ bound
+-- Four sums within the cap of a total.
+pub record Within (a b c d : ℕ) : Type 0 where
+  pub first : WithinTotal a
+  pub second : WithinTotal b
+  pub third : WithinTotal c
+  pub fourth : WithinTotal d
 
-abbrev pub AmountsWithin : ℕ → Amounts → Type 0
-AmountsWithin bound a = Within bound (a .accepted .0) (a .held .0) (a .free .0) (a .left .0)
+abbrev pub AmountsWithin : Amounts → Type 0
+AmountsWithin a = Within (a .accepted .0) (a .held .0) (a .free .0) (a .left .0)
 
-abbrev pub FeesWithin : ℕ → Fees → Type 0
-FeesWithin bound a = Within bound (a .accepted .0) (a .held .0) (a .free .0) (a .left .0)
+abbrev pub FeesWithin : Fees → Type 0
+FeesWithin a = Within (a .accepted .0) (a .held .0) (a .free .0) (a .left .0)
 
-abbrev pub TotalsWithin : ℕ → Totals → Type 0
-TotalsWithin bound totals = AmountsWithin bound (totals .amounts) × FeesWithin bound (totals .fees)
+abbrev pub TotalsWithin : Totals → Type 0
+TotalsWithin totals = AmountsWithin (totals .amounts) × FeesWithin (totals .fees)
 
-abbrev pub RowWithin : ℕ → SheetRow → Type 0
-RowWithin bound row = AmountsWithin bound (row .amounts) × FeesWithin bound (row .fees)
+abbrev pub RowWithin : SheetRow → Type 0
+RowWithin row = AmountsWithin (row .amounts) × FeesWithin (row .fees)
 
 -- Totals with all rows added, or a total is above the cap.
 unfoldable pub addingOf : Totals → List SheetRow → Adding

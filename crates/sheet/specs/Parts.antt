@@ -1,8 +1,9 @@
 -- What code adds up of a shipment's orders, and how it divides what was accepted. Only the contracts below `sheet` need these.
 use mathlib.Core.Bool.{cond}
 use mathlib.Core.List.{List}
-use Prim.Native.Nat.{ℕ, _+_, _-_, _≤_}
+use Prim.Native.Nat.{ℕ, _+_, _-_, _^_, _<_}
 use lib.ListN.{length}
+use Rattle.money.specs.Money.{amount, fee, WithinSum}
 use Rattle.money.specs.declared.Money.{Money}
 use Rattle.money.specs.declared.Money.the-variants.{K, O}
 use Rattle.model.specs.Shipment.{Shipment, accepted, isPaired, onlyIf, sumOver, free, holds, held}
@@ -10,8 +11,7 @@ use Rattle.model.specs.declared.Row.{Row}
 use Rattle.sheet.specs.declared.Amounts.{Amounts}
 use Rattle.sheet.specs.declared.Fees.{Fees}
 use Rattle.sheet.specs.declared.row.Parts.{Parts}
-use Rattle.sheet.specs.declared.row.Division.{Division}
-use Rattle.sheet.specs.Sheet.{left, amount, fee}
+use Rattle.sheet.specs.Sheet.{left}
 
 abbrev pub amountOfRow : Row → ℕ
 amountOfRow row = row .amount .0
@@ -24,31 +24,42 @@ holdersOfRow row = onlyIf (holds O (row .state)) 1
 
 -- The orders of a Paired shipment: how many, all amounts, the amounts held, and how many hold a fee.
 abbrev pub noParts : Parts
-noParts = record { orders = 0; amounts = 0; held = 0; holders = 0 }
+noParts = record { orders = 0; amounts = amount 0; held = amount 0; holders = 0 }
 
 abbrev pub withOrder : Parts → Row → Parts
 withOrder parts row = record {
   orders = parts .orders + 1;
-  amounts = parts .amounts + amountOfRow row;
-  held = parts .held + heldByRow row;
+  amounts = amount (parts .amounts .0 + amountOfRow row);
+  held = amount (parts .held .0 + heldByRow row);
   holders = parts .holders + holdersOfRow row;
 }
 
 abbrev pub partsOf : List Row → Parts
-partsOf rows = record { orders = length rows; amounts = sumOver amountOfRow rows; held = sumOver heldByRow rows; holders = sumOver holdersOfRow rows }
+partsOf rows = record {
+  orders = length rows;
+  amounts = amount (sumOver amountOfRow rows);
+  held = amount (sumOver heldByRow rows);
+  holders = sumOver holdersOfRow rows;
+}
 
 -- In other stages nothing is needed or held.
 unfoldable pub partsOncePaired : Shipment → Parts
 partsOncePaired s = cond (isPaired (s .stage)) (partsOf (s .rows)) noParts
 
--- Parts that one order more cannot carry past 64 bits.
-pub record Small (parts : Parts) (n : ℕ) : Type 0 where
-  pub orders : parts .orders ≤ n
-  pub amounts : parts .amounts ≤ n
-  pub held : parts .held ≤ n
-  pub holders : parts .holders ≤ n
+-- Parts that one order more keeps within the cap of a sum: its amount is four bytes.
+pub record SmallParts (parts : Parts) : Type 0 where
+  pub orders : parts .orders < 2 ^ 60
+  pub amounts : WithinSum (parts .amounts .0 + 2 ^ 32)
+  pub held : WithinSum (parts .held .0 + 2 ^ 32)
+  pub holders : parts .holders < 2 ^ 60
 
--- What was accepted is divided: what is held, what is free, and the rest has left.
+-- What was accepted of a money is divided: what is held, what is free, and the rest has left.
+pub record Division : Type 0 where
+  pub accepted : ℕ
+  pub held : ℕ
+  pub free : ℕ
+  pub left : ℕ
+
 abbrev pub divided : ℕ → ℕ → ℕ → ℕ → Division
 divided accepted returned need held = record {
   accepted = accepted;

@@ -6,8 +6,7 @@ use mathlib.Core.Option.{Option, some, none}
 use Prim.Native.Nat.{ℕ, _+_}
 use lib.Dec.{leb}
 use lib.ListN.{length, drop}
-use Rattle.money.specs.declared.Amount.{Amount}
-use Rattle.money.specs.declared.Fee.{Fee}
+use Rattle.money.specs.Money.{amount, fee, isTotal}
 use Rattle.money.specs.declared.Money.{Money}
 use Rattle.money.specs.declared.Money.the-variants.{K, O}
 use Rattle.epe.specs.declared.ident.Ident.{Ident}
@@ -57,12 +56,6 @@ unfoldable pub left : Money → Shipment → ℕ
 left money s = worthWhere (isOut money) money s + onlyIf (isPaired (s .stage)) (worthWhere (waitsNoMore money) money s) + returned money s
 
 -- "The sheet fills a lent table, one row per shipment: identifier; accepted, held, free, left, for K and for O."
-abbrev pub amount : ℕ → Amount
-amount grosze = record { 0 = grosze }
-
-abbrev pub fee : ℕ → Fee
-fee grosze = record { 0 = grosze }
-
 abbrev pub amountsOf : Shipment → Amounts
 amountsOf s = record { accepted = amount (accepted K s); held = amount (held K s); free = amount (free K s); left = amount (left K s) }
 
@@ -97,16 +90,17 @@ plusAll totals [] = totals
 plusAll totals (row ∷ rows) = plusAll (plus totals row) rows
 
 -- "After adding, no total above 999,999,999,999,999?"
-abbrev pub totalCap : ℕ
-totalCap = 999_999_999_999_999
-
 abbrev pub fourWithin : ℕ → ℕ → ℕ → ℕ → Bool
-fourWithin a b c d = leb a totalCap && (leb b totalCap && (leb c totalCap && leb d totalCap))
+fourWithin a b c d = isTotal a && (isTotal b && (isTotal c && isTotal d))
+
+abbrev pub amountsWithin : Amounts → Bool
+amountsWithin a = fourWithin (a .accepted .0) (a .held .0) (a .free .0) (a .left .0)
+
+abbrev pub feesWithin : Fees → Bool
+feesWithin a = fourWithin (a .accepted .0) (a .held .0) (a .free .0) (a .left .0)
 
 unfoldable pub withinCap : Totals → Bool
-withinCap totals =
-    fourWithin (totals .amounts .accepted .0) (totals .amounts .held .0) (totals .amounts .free .0) (totals .amounts .left .0)
-    && fourWithin (totals .fees .accepted .0) (totals .fees .held .0) (totals .fees .free .0) (totals .fees .left .0)
+withinCap totals = amountsWithin (totals .amounts) && feesWithin (totals .fees)
 
 -- What a sheet answers, and what it leaves of the table and the totals.
 pub record Sheet : Type 0 where
@@ -136,7 +130,7 @@ abbrev pub Balances : Type 0
 Balances = (money : Money) (s : Shipment) → shipmentSound s ≡ true → accepted money s ≡ held money s + free money s + left money s
 
 -- What the sheet says has left of a shipment is what demand 3 counts as left: all that the answers given so far say went out, at every point of every
--- list of calls from an empty book.
+-- list of calls from an empty book. Of the bytes of a list of calls, crates/audit/specs/SheetAsAnswered.antt says it.
 abbrev pub LeftAsAnswered : Type 0
 LeftAsAnswered = (calls : List Call) (p : ℕ) (ident : Ident) (money : Money)
     → ofShipment (left money) (find ident (bookAt calls p)) ≡ sumOver (leftFor money ident) (eventsBetween calls 0 p)

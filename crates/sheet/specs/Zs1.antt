@@ -18,7 +18,7 @@ abbrev pub sheetAt : ℕ → List (List ℕ)
 sheetAt point = map (λ (s : Shipment). eight (rowFor s)) (bookAt calls point)
 
 pub record Zs1Sheet : Type 0 where
-  -- "6. Post and pay 1": by then K 15,100 and O 700 have left.
+  -- "6. Post and pay 1 ..": by then K 15,100 and O 700 have left.
   pub line-6 : sheetAt 14 ≡ (17_650 ∷ 2_550 ∷ 0 ∷ 15_100 ∷ 1_050 ∷ 350 ∷ 0 ∷ 700 ∷ []) ∷ []
   -- "8. Then K left 17,650, O left 1,050, nothing held or free."
   pub line-8 : sheetAt 17 ≡ (17_650 ∷ 0 ∷ 0 ∷ 17_650 ∷ 1_050 ∷ 0 ∷ 0 ∷ 1_050 ∷ []) ∷ []

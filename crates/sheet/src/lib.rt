@@ -15,8 +15,7 @@ use money::Fee;
 use sound::is_sound;
 ghost use mathlib.Core.Path.{_≡_};
 ghost use lib.ListN.{length};
-ghost use Rattle.memory.specs.Read.{readBook};
-ghost use Rattle.book.specs.Place.{Sits};
+ghost use Rattle.memory.specs.Read.{readBook, Sits};
 ghost use Rattle.sheet.specs.Sheet.{sheetOf};
 ghost use Rattle.sheet.specs.Filling.{planOf, rowsToFill, answerOf, lineAt, filledTo, Fillable};
 

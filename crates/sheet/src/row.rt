@@ -2,12 +2,14 @@
 use crate::Amounts;
 use crate::Fees;
 use crate::SheetRow;
-use memory::head::accepted;
+use memory::head::amounts_accepted;
+use memory::head::amounts_returned;
 use memory::head::fee;
+use memory::head::fees_accepted;
+use memory::head::fees_returned;
 use memory::head::head_bytes;
 use memory::head::is_paired;
 use memory::head::orders;
-use memory::head::returned;
 use memory::name::ident;
 use memory::row::amount;
 use memory::row::holding;
@@ -15,47 +17,52 @@ use memory::row::holding_table;
 use memory::row::row_bytes;
 use money::Amount;
 use money::Fee;
-use money::Money;
 ghost use mathlib.Core.Path.{_≡_};
 ghost use Prim.Native.Nat.{_+_, _≤_, _<_, _^_};
 ghost use lib.ListN.{length};
 ghost use Rattle.memory.specs.Layout.{size};
 ghost use Rattle.memory.specs.Rows.{rowOf, holdingTable};
-ghost use Rattle.memory.specs.Read.{rowsFrom, shipmentAt};
-ghost use Rattle.book.specs.Place.{Sits};
+ghost use Rattle.memory.specs.Read.{rowsFrom, shipmentAt, Sits};
 ghost use Rattle.sheet.specs.Sheet.{amountsOf, feesOf, rowFor};
-ghost use Rattle.sheet.specs.Parts.{withOrder, partsOf, partsOncePaired, Small, divided};
+ghost use Rattle.sheet.specs.Parts.{noParts, withOrder, partsOf, partsOncePaired, SmallParts, divided, amountsFrom, feesFrom};
 
 // Of orders: how many, all their amounts, the amounts held, and how many hold a fee.
 pub struct Parts {
     pub orders: u64,
-    pub amounts: u64,
-    pub held: u64,
+    pub amounts: Amount,
+    pub held: Amount,
     pub holders: u64,
-}
-
-// What was accepted of a money, and how it is divided.
-pub struct Division {
-    pub accepted: u64,
-    pub held: u64,
-    pub free: u64,
-    pub left: u64,
 }
 
 // The parts with one order more.
 fn with_order(parts: Parts, row: &[u8], table: &[u64]) -> Parts
-    requires { ⌜ (length (now row) ≡ 8) × (now table ≡ holdingTable) × Small parts (2 ^ 60) ⌝ }
-    ensures { λ r. ⌜ (r ≡ withOrder parts (rowOf (now (row .entry)))) × (r .amounts < parts .amounts + 2 ^ 32) ⌝ }
+    requires { ⌜ (length (now row) ≡ 8) × (now table ≡ holdingTable) × SmallParts parts ⌝ }
+    ensures { λ r. ⌜ (r ≡ withOrder parts (rowOf (now (row .entry)))) × (r .amounts .0 < parts .amounts .0 + 2 ^ 32) ⌝ }
 {
     let amount = amount(row);
     let holding = holding(row, table);
-    let held = amount * (holding % 2);
+    let k_held = amount.0 * (holding % 2);
     let holder = holding / 2;
+    let amounts = Amount::sum(parts.amounts.0 + amount.0);
+    let held = Amount::sum(parts.held.0 + k_held);
     Parts {
         orders: parts.orders + 1,
-        amounts: parts.amounts + amount,
-        held: parts.held + held,
+        amounts,
+        held,
         holders: parts.holders + holder,
+    }
+}
+
+// No parts.
+fn no_parts() -> Parts
+    ensures { λ r. ⌜ r ≡ noParts ⌝ }
+{
+    let nothing = Amount::sum(0);
+    Parts {
+        orders: 0,
+        amounts: nothing,
+        held: nothing,
+        holders: 0,
     }
 }
 
@@ -65,12 +72,7 @@ fn parts_of(memory: &[u8], k: usize, n: usize) -> Parts
     ensures { λ r. ⌜ r ≡ partsOf (rowsFrom (now (memory .entry)) k n) ⌝ }
 {
     let table = holding_table();
-    let mut parts = Parts {
-        orders: 0,
-        amounts: 0,
-        held: 0,
-        holders: 0,
-    };
+    let mut parts = no_parts();
     let mut i = k;
     let mut left = n;
     while 0 < left {
@@ -88,27 +90,36 @@ fn parts_at(memory: &[u8], i: usize, k: usize) -> Parts
 {
     let head = head_bytes(memory, i);
     if !is_paired(head) {
-        return Parts {
-            orders: 0,
-            amounts: 0,
-            held: 0,
-            holders: 0,
-        };
+        return no_parts();
     }
     parts_of(memory, k, orders(head) as usize)
 }
 
-// Divides what was accepted, by what was returned of it, is needed and is held.
-fn divide(accepted: u64, returned: u64, need: u64, held: u64) -> Division
-    requires { ⌜ (returned + need ≤ accepted) × (held ≤ returned + need) ⌝ }
-    ensures { λ r. ⌜ r ≡ divided accepted returned need held ⌝ }
+// Divides the amounts accepted, by what was returned of them, is needed and is held.
+fn amounts_divided(accepted: Amount, returned: Amount, need: Amount, held: Amount) -> Amounts
+    ensures { λ r. ⌜ r ≡ amountsFrom (divided (accepted .0) (returned .0) (need .0) (held .0)) ⌝ }
 {
-    let free = accepted - need - returned;
-    Division {
-        accepted: accepted,
-        held: held,
-        free: free,
-        left: accepted - held - free,
+    let free = accepted.less(need).less(returned);
+    let left = accepted.less(held).less(free);
+    Amounts {
+        accepted,
+        held,
+        free,
+        left,
+    }
+}
+
+// Divides the fees accepted likewise.
+fn fees_divided(accepted: Fee, returned: Fee, need: Fee, held: Fee) -> Fees
+    ensures { λ r. ⌜ r ≡ feesFrom (divided (accepted .0) (returned .0) (need .0) (held .0)) ⌝ }
+{
+    let free = accepted.less(need).less(returned);
+    let left = accepted.less(held).less(free);
+    Fees {
+        accepted,
+        held,
+        free,
+        left,
     }
 }
 
@@ -118,33 +129,23 @@ fn amounts_at(memory: &[u8], i: usize, k: usize, parts: Parts) -> Amounts
     ensures { λ r. ⌜ r ≡ amountsOf (shipmentAt (now (memory .entry)) i k) ⌝ }
 {
     let head = head_bytes(memory, i);
-    let accepted = accepted(head, Money::K);
-    let returned = returned(head, Money::K);
-    let division = divide(accepted, returned, parts.amounts, parts.held);
-    Amounts {
-        accepted: Amount(division.accepted),
-        held: Amount(division.held),
-        free: Amount(division.free),
-        left: Amount(division.left),
-    }
+    let accepted = amounts_accepted(head);
+    let returned = amounts_returned(head);
+    amounts_divided(accepted, returned, parts.amounts, parts.held)
 }
 
-// Its fees.
+// Its fees: an order needs the fee, and each that holds a fee holds it.
 fn fees_at(memory: &[u8], i: usize, k: usize, parts: Parts) -> Fees
     requires { ⌜ Sits (now memory) i k × (parts ≡ partsOncePaired (shipmentAt (now memory) i k)) ⌝ }
     ensures { λ r. ⌜ r ≡ feesOf (shipmentAt (now (memory .entry)) i k) ⌝ }
 {
     let head = head_bytes(memory, i);
-    let accepted = accepted(head, Money::O);
-    let returned = returned(head, Money::O);
+    let accepted = fees_accepted(head);
+    let returned = fees_returned(head);
     let fee = fee(head);
-    let division = divide(accepted, returned, fee * parts.orders, fee * parts.holders);
-    Fees {
-        accepted: Fee(division.accepted),
-        held: Fee(division.held),
-        free: Fee(division.free),
-        left: Fee(division.left),
-    }
+    let need = Fee::sum(fee.0 * parts.orders);
+    let held = Fee::sum(fee.0 * parts.holders);
+    fees_divided(accepted, returned, need, held)
 }
 
 // The row of the shipment at a place.

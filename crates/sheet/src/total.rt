@@ -1,4 +1,4 @@
-// The totals: rows are added to them in true arithmetic, and no total may be above its cap.
+// The totals: a row is added where no total passes the cap by it. Sums only grow, so that one past the cap is past it after all rows too.
 use crate::Amounts;
 use crate::Fees;
 use crate::SheetRow;
@@ -11,13 +11,9 @@ use money::Fee;
 ghost use mathlib.Core.Path.{_≡_};
 ghost use mathlib.Core.Bool.{true};
 ghost use mathlib.Core.List.{map};
-ghost use Prim.Native.Nat.{_^_};
 ghost use Rattle.memory.specs.Read.{shipmentsIn, bookIn, soundIn};
-ghost use Rattle.sheet.specs.Sheet.{rowFor, plusAmounts, plusFees, plus, plusAll, fourWithin, withinCap};
+ghost use Rattle.sheet.specs.Sheet.{rowFor, plusAmounts, plusFees, plus, amountsWithin, feesWithin, withinCap};
 ghost use Rattle.sheet.specs.Filling.{AmountsWithin, FeesWithin, TotalsWithin, RowWithin, addingOf};
-
-// The most that a total may come to. It is above the cap of a sum.
-const CAP: u64 = 999_999_999_999_999;
 
 // Totals with rows added, or one of them is above the cap.
 pub enum Adding {
@@ -25,25 +21,21 @@ pub enum Adding {
     Above,
 }
 
-// Are four totals within the cap?
-fn are_within(a: u64, b: u64, c: u64, d: u64) -> bool
-    ensures { λ r. ⌜ r ≡ fourWithin a b c d ⌝ }
-{
-    a <= CAP && (b <= CAP && (c <= CAP && d <= CAP))
-}
-
 // Are the amounts within the cap?
 fn are_amounts_within(a: Amounts) -> bool
-    ensures { λ r. ⌜ r ≡ fourWithin (a .accepted .0) (a .held .0) (a .free .0) (a .left .0) ⌝ }
+    ensures { λ r. ⌜ r ≡ amountsWithin a ⌝ }
 {
-    are_within(a.accepted.0, a.held.0, a.free.0, a.left.0)
+    Amount::is_total(a.accepted.0)
+        && (Amount::is_total(a.held.0)
+            && (Amount::is_total(a.free.0) && Amount::is_total(a.left.0)))
 }
 
 // Are the fees?
 fn are_fees_within(a: Fees) -> bool
-    ensures { λ r. ⌜ r ≡ fourWithin (a .accepted .0) (a .held .0) (a .free .0) (a .left .0) ⌝ }
+    ensures { λ r. ⌜ r ≡ feesWithin a ⌝ }
 {
-    are_within(a.accepted.0, a.held.0, a.free.0, a.left.0)
+    Fee::is_total(a.accepted.0)
+        && (Fee::is_total(a.held.0) && (Fee::is_total(a.free.0) && Fee::is_total(a.left.0)))
 }
 
 // Are all totals within the cap?
@@ -53,58 +45,76 @@ fn is_within(totals: Totals) -> bool
     are_amounts_within(totals.amounts) && are_fees_within(totals.fees)
 }
 
+// Do amounts stay within the cap with others added?
+fn can_add_amounts(a: Amounts, b: Amounts) -> bool
+    requires { ⌜ AmountsWithin a × AmountsWithin b ⌝ }
+    ensures { λ r. ⌜ r ≡ amountsWithin (plusAmounts a b) ⌝ }
+{
+    Amount::is_total(a.accepted.0 + b.accepted.0)
+        && (Amount::is_total(a.held.0 + b.held.0)
+            && (Amount::is_total(a.free.0 + b.free.0) && Amount::is_total(a.left.0 + b.left.0)))
+}
+
+// Do fees?
+fn can_add_fees(a: Fees, b: Fees) -> bool
+    requires { ⌜ FeesWithin a × FeesWithin b ⌝ }
+    ensures { λ r. ⌜ r ≡ feesWithin (plusFees a b) ⌝ }
+{
+    Fee::is_total(a.accepted.0 + b.accepted.0)
+        && (Fee::is_total(a.held.0 + b.held.0)
+            && (Fee::is_total(a.free.0 + b.free.0) && Fee::is_total(a.left.0 + b.left.0)))
+}
+
+// Do the totals with a row added?
+fn can_add(totals: Totals, row: SheetRow) -> bool
+    requires { ⌜ TotalsWithin totals × RowWithin row ⌝ }
+    ensures { λ r. ⌜ r ≡ withinCap (plus totals row) ⌝ }
+{
+    can_add_amounts(totals.amounts, row.amounts) && can_add_fees(totals.fees, row.fees)
+}
+
 // Amounts added, each to its own.
 fn plus_amounts(a: Amounts, b: Amounts) -> Amounts
-    requires { ⌜ AmountsWithin (2 ^ 62) a × AmountsWithin (2 ^ 62) b ⌝ }
+    requires { ⌜ AmountsWithin (plusAmounts a b) ⌝ }
     ensures { λ r. ⌜ r ≡ plusAmounts a b ⌝ }
 {
+    let accepted = Amount::total(a.accepted.0 + b.accepted.0);
+    let held = Amount::total(a.held.0 + b.held.0);
+    let free = Amount::total(a.free.0 + b.free.0);
+    let left = Amount::total(a.left.0 + b.left.0);
     Amounts {
-        accepted: Amount(a.accepted.0 + b.accepted.0),
-        held: Amount(a.held.0 + b.held.0),
-        free: Amount(a.free.0 + b.free.0),
-        left: Amount(a.left.0 + b.left.0),
+        accepted,
+        held,
+        free,
+        left,
     }
 }
 
 // Fees added, each to its own.
 fn plus_fees(a: Fees, b: Fees) -> Fees
-    requires { ⌜ FeesWithin (2 ^ 62) a × FeesWithin (2 ^ 62) b ⌝ }
+    requires { ⌜ FeesWithin (plusFees a b) ⌝ }
     ensures { λ r. ⌜ r ≡ plusFees a b ⌝ }
 {
+    let accepted = Fee::total(a.accepted.0 + b.accepted.0);
+    let held = Fee::total(a.held.0 + b.held.0);
+    let free = Fee::total(a.free.0 + b.free.0);
+    let left = Fee::total(a.left.0 + b.left.0);
     Fees {
-        accepted: Fee(a.accepted.0 + b.accepted.0),
-        held: Fee(a.held.0 + b.held.0),
-        free: Fee(a.free.0 + b.free.0),
-        left: Fee(a.left.0 + b.left.0),
+        accepted,
+        held,
+        free,
+        left,
     }
 }
 
 // The totals with one row added.
 fn plus(totals: Totals, row: SheetRow) -> Totals
-    requires { ⌜ TotalsWithin (2 ^ 62) totals × RowWithin (2 ^ 62) row ⌝ }
+    requires { ⌜ TotalsWithin (plus totals row) ⌝ }
     ensures { λ r. ⌜ r ≡ plus totals row ⌝ }
 {
     let amounts = plus_amounts(totals.amounts, row.amounts);
     let fees = plus_fees(totals.fees, row.fees);
     Totals { amounts, fees }
-}
-
-// The totals with the rows of all n shipments of a sound book added.
-fn plus_all(memory: &[u8], n: usize, totals: Totals) -> Totals
-    requires { ⌜ (soundIn (now memory) ≡ true) × (n ≡ shipmentsIn (now memory)) × (withinCap totals ≡ true) ⌝ }
-    ensures { λ r. ⌜ r ≡ plusAll totals (map rowFor (bookIn (now (memory .entry)))) ⌝ }
-{
-    let mut sums = totals;
-    let mut i = 0;
-    let mut k = 0;
-    let mut left = n;
-    while 0 < left {
-        sums = plus(sums, row_at(memory, i, k));
-        k += orders(head_bytes(memory, i)) as usize;
-        i += 1;
-        left -= 1;
-    }
-    sums
 }
 
 // Adds the rows of all n shipments of a sound book to totals.
@@ -115,9 +125,19 @@ pub fn add(memory: &[u8], n: usize, totals: Totals) -> Adding
     if !is_within(totals) {
         return Adding::Above;
     }
-    let sums = plus_all(memory, n, totals);
-    if !is_within(sums) {
-        return Adding::Above;
+    let mut sums = totals;
+    let mut i = 0;
+    let mut k = 0;
+    let mut left = n;
+    while 0 < left {
+        let row = row_at(memory, i, k);
+        if !can_add(sums, row) {
+            return Adding::Above;
+        }
+        sums = plus(sums, row);
+        k += orders(head_bytes(memory, i)) as usize;
+        i += 1;
+        left -= 1;
     }
     Adding::Added(sums)
 }

@@ -48,7 +48,7 @@ use denote.Triple.Table.{entered, cited}
 use denote.Triple.Walked.{says, needs, Stays, stay-slice, stay-none, stay-none-slice, walkOf, goes-slice, goes-none, goes-none-slice, Walks, ends-at, walked, walk-meets}
 use denote.Triple.Clauses.{ensured, lasts}
 use denote.Exit.{yes}
-use Rattle.book.specs.Place.{Sits}
+use Rattle.memory.specs.Read.{Sits}
 use Rattle.sheet.specs.Filling.{lineAt, startOf, rowIn, filledTo, Fillable}
 use Rattle.sheet.specs.declared.Line.{Line}
 use Rattle.sheet.specs.declared.SheetRow.{SheetRow}

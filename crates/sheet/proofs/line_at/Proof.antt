@@ -1,7 +1,7 @@
 -- `sheet::line_at` reads the row, and counts its orders.
 use mathlib.Core.Path.{_∙_}
 use Prim.Native.Nat.{_+_}
-use Rattle.book.proofs.HeadFields.{orders-are}
+use Rattle.memory.proofs.HeadFields.{orders-are}
 use borrow.Author.Needs.{needs}
 use Rattle.sheet.proofs.line_at.Statement.{statement}
 use Rattle.sheet.proofs.line_at.Tie as tie

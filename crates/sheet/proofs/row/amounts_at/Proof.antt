@@ -1,45 +1,49 @@
 -- `sheet::row::amounts_at` divides what was accepted of K.
-use mathlib.Core.Path.{ap}
+use mathlib.Core.Path.{ap, _∙_}
+use Rattle.money.specs.declared.Amount.{Amount}
 use Rattle.money.specs.declared.Money.the-variants.{K}
+use Rattle.memory.proofs.HeadFields.{accepted-within, returned-within}
 use Rattle.sheet.specs.Parts.{amountsFrom}
-use Rattle.sheet.proofs.Dividing.{amounts-needed, amounts-held, can-divide, division-is}
+use Rattle.sheet.proofs.Dividing.{amounts-needed, amounts-held, division-is}
 use borrow.Author.Needs.{needs}
 use Rattle.sheet.proofs.row.amounts_at.Statement.{statement}
 use Rattle.sheet.proofs.row.amounts_at.Tie as tie
 
--- src/row.rt:126:9
 head-bytes-requires : tie.Need-head-bytes-requires
 head-bytes-requires c κs = search needs
 
--- src/row.rt:127:9
-accepted-requires : tie.Need-accepted-requires
-accepted-requires c κs = search needs
-
--- src/row.rt:128:9
-returned-requires : tie.Need-returned-requires
-returned-requires c κs = search needs
-
--- src/row.rt:129:9
-divide-requires : tie.Need-divide-requires
-divide-requires c κs =
-    let accepted = c .before in
-    let head = accepted .before in
+amounts-accepted-requires : tie.Need-amounts-accepted-requires
+amounts-accepted-requires c κs =
+    let head = c in
     let start = head .before .before in
-    can-divide _ (start .args .i) (start .args .k) (start .pre .0) (head .head-bytes .ensures .0) K (accepted .accepted .ensures) (c .returned .ensures)
-    (amounts-needed _ (start .pre .1)) (amounts-held _ (start .pre .1))
+    (head .head-bytes .ensures .1, accepted-within _ (start .args .i) (start .args .k) (head .head-bytes .ensures .0) (start .pre .0) K)
 
--- src/row.rt:122:1
+amounts-returned-requires : tie.Need-amounts-returned-requires
+amounts-returned-requires c κs =
+    let head = c .before in
+    let start = head .before .before in
+    (head .head-bytes .ensures .1, returned-within _ (start .args .i) (start .args .k) (head .head-bytes .ensures .0) (start .pre .0) K)
+
+amounts-divided-requires : tie.Need-amounts-divided-requires
+amounts-divided-requires c κs = search needs
+
 returns : tie.Need-returns
 returns c =
     let returned = c .before in
     let accepted = returned .before in
     let head = accepted .before in
     let start = head .before .before in
-    ap amountsFrom
-    (division-is _ (start .args .i) (start .args .k) (start .pre .0) (head .head-bytes .ensures .0) K (accepted .accepted .ensures)
-    (returned .returned .ensures) (amounts-needed _ (start .pre .1)) (amounts-held _ (start .pre .1)) (c .divide .ensures))
+    c .amounts-divided .ensures
+    ∙ ap amountsFrom
+    (division-is _ (start .args .i) (start .args .k) (start .pre .0) (head .head-bytes .ensures .0) K (ap (λ (a : Amount). a .0) (accepted .amounts-accepted .ensures))
+    (ap (λ (a : Amount). a .0) (returned .amounts-returned .ensures)) (amounts-needed _ (start .pre .1)) (amounts-held _ (start .pre .1)))
 
 pub amounts-at-spec : {M : Type 1} → statement M
 amounts-at-spec =
     tie.close
-    (tie.spec head-bytes-requires accepted-requires returned-requires divide-requires returns)
+    (tie.spec
+    head-bytes-requires
+    amounts-accepted-requires
+    amounts-returned-requires
+    amounts-divided-requires
+    returns)

@@ -1,4 +1,5 @@
 -- `sheet::row::parts_at` goes by the stage.
+use mathlib.Core.Path.{_∙_}
 use Rattle.sheet.proofs.Adding.{none-unpaired, rows-there, parts-paired}
 use borrow.Author.Tests.{not-true, not-false}
 use borrow.Author.Needs.{needs}
@@ -11,11 +12,15 @@ head-bytes-requires c κs = search needs
 is-paired-requires : tie.Need-is-paired-requires
 is-paired-requires c κs = search needs
 
+no-parts-requires : tie.Need-no-parts-requires
+no-parts-requires c κs = search needs
+
 returns : tie.Need-returns
 returns c =
-    let paired = c .before in
+    let paired = c .before .before in
     let head = paired .before in
-    none-unpaired _ _ (head .before .before .args .k) (head .head-bytes .ensures .0) (paired .is-paired .ensures) (not-true _ (c .if1 .taken))
+    c .no-parts .ensures
+    ∙ none-unpaired _ _ (head .before .before .args .k) (head .head-bytes .ensures .0) (paired .is-paired .ensures) (not-true _ (c .before .if1 .taken))
 
 orders-requires : tie.Need-orders-requires
 orders-requires c κs = search needs
@@ -44,6 +49,7 @@ parts-at-spec =
     (tie.spec
     head-bytes-requires
     is-paired-requires
+    no-parts-requires
     returns
     orders-requires
     parts-of-requires

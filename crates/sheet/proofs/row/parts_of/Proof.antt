@@ -13,8 +13,11 @@ abbrev μ-loop : tie.MeasureT-loop
 holding-table-requires : tie.Need-holding-table-requires Inv-loop μ-loop
 holding-table-requires c κs = search needs
 
+no-parts-requires : tie.Need-no-parts-requires Inv-loop μ-loop
+no-parts-requires c κs = search needs
+
 loop-holds : tie.Need-loop-holds Inv-loop μ-loop
-loop-holds c = begun
+loop-holds c = rw (c .no-parts .ensures) begun
 
 row-bytes-requires : tie.Need-row-bytes-requires Inv-loop μ-loop
 row-bytes-requires c κs = search needs
@@ -25,7 +28,7 @@ slice-aggregate-with-order c = search needs
 with-order-requires : tie.Need-with-order-requires Inv-loop μ-loop
 with-order-requires c κs =
     let turn = c .before .before .before in
-    (c .before .row-bytes .ensures .1, turn .before .holding-table .ensures, still-small (turn .loop .inv) (search needs))
+    (c .before .row-bytes .ensures .1, turn .before .before .holding-table .ensures, still-small (turn .loop .inv) (search needs) (search needs))
 
 add-i : tie.Need-add-i Inv-loop μ-loop
 add-i c = search needs
@@ -52,6 +55,7 @@ parts-of-spec =
     Inv-loop
     μ-loop
     holding-table-requires
+    no-parts-requires
     loop-holds
     row-bytes-requires
     slice-aggregate-with-order
