@@ -12,6 +12,7 @@ use Rattle.model.specs.Book.{Book, step}
 use Rattle.model.specs.Demand.{run, events, leaves, timesLeft, AtCall, AtEachCall}
 use Rattle.model.proofs.Demand3.{demand3}
 use Rattle.memory.specs.Read.{readBook}
+use Rattle.model.proofs.Asking.{refusal-moves-nothing}
 use Rattle.book.specs.Does.{Does}
 use Rattle.audit.specs.Listed.{Made, Chain, memoryAt, eventOf, callsOf, leavesBytes, timesLeftBytes}
 use Rattle.audit.specs.Listed.{AtMade, AtEachMade, AnsweredAsRead, ListedFromEmpty}
@@ -31,7 +32,7 @@ module _ {book : Book} {before : List ℕ} {made : Made} (held : readBook before
 
   at-made : AtCall book (made .call) → AtMade before made
   at-made at = record {
-    refused = does .refused;
+    refused = λ refusal. does .unmoved (refusal-moves-nothing (made .answer) refusal);
     others = λ ident other. rw (held, left) (at .others ident other);
     entire = λ ident money own. rw (held, left, answered) (at .entire ident money own);
     counted = λ ident route money return. rw (held, left, answered) (at .counted ident route money return);

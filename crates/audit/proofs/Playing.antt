@@ -1,14 +1,19 @@
 -- One entry played: its call is the one that its first byte says.
 -- Assumes nothing.
-use mathlib.Core.Path.{_≡_}
-use mathlib.Core.Bool.{true}
+use mathlib.Core.Path.{_≡_, refl}
+use mathlib.Core.Bool.{Bool, true, false, _&&_}
 use mathlib.Core.List.{List}
 use Prim.Native.Nat.{ℕ, _≤_}
 use native.Mathlib.Omega.{arith}
 use borrow.Author.Tests.{leb-true, ne-eqb}
-use lib.ListN.{getD}
+use lib.Dec.{eqb}
+use lib.ListN.{length, getD}
+use Rattle.text.specs.Bytes.{between}
+use Rattle.calendar.specs.Calendar.{real}
 use Rattle.money.specs.declared.Money.{Money}
+use Rattle.epe.specs.Profile.{feesFit, profileFits}
 use Rattle.epe.specs.declared.ident.Ident.{Ident}
+use Rattle.epe.specs.declared.profile.Profile.{Profile}
 use Rattle.model.specs.Calls.{GoAhead, Pair, Close, OnOrder, Return, Call, Intake, Transfer, On, Answer}
 use Rattle.model.specs.declared.Deed.the-variants.{Post, Pay, MarkUndelivered, Withdraw}
 use Rattle.model.specs.declared.Route.{Route}
@@ -17,6 +22,16 @@ use Rattle.book.specs.Does.{Does}
 use Rattle.audit.specs.declared.reply.Reply.{Reply}
 use Rattle.audit.specs.Journal.{identIn, numberIn, profileIn, routeIn, moneyIn, firstText, secondText, actIn, callIn, entryFits}
 use Rattle.audit.specs.Replay.{replyOf, Plays}
+
+-- fees that are none spoil a profile
+pub unfit : (profile : Profile) → feesFit (profile .fees) ≡ false → profileFits profile ≡ false
+unfolding profileFits
+unfit profile h = by (real (profile .today .0)) (eqb (length (profile .fees)) 5) (feesFit (profile .fees)) (between 19 32 (profile .fields)) h
+  where
+    by : (today five fees fields : Bool) → fees ≡ false → (today && ((five && fees) && fields)) ≡ false
+    by true true fees fields h = rw h
+    by true false fees fields h = refl
+    by false five fees fields h = refl
 
 -- a call that was made and told, under the name that the entry gives it
 pub plays : {before after : List ℕ} {call same : Call} {answer : Answer} {reply : Reply} → call ≡ same → Does before call answer after

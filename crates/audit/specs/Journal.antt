@@ -17,6 +17,7 @@ use lib.Dec.{leb, eqb}
 use lib.ListN.{length, getD, take, drop}
 use Rattle.money.specs.declared.Money.{Money}
 use Rattle.money.specs.declared.Money.the-variants.{K, O}
+use Rattle.epe.specs.Profile.{asFees}
 use Rattle.epe.specs.declared.ident.Ident.{Ident}
 use Rattle.epe.specs.declared.profile.Profile.{Profile}
 use Rattle.model.specs.Calls.{Act, GoAhead, Pair, Close, OnOrder, Return, Call, Intake, Transfer, On}
@@ -31,10 +32,13 @@ identIn entry = record { bytes = take 17 (drop 4 entry); len = getD entry 3 0 }
 abbrev pub numberIn : List ℕ → ℕ
 numberIn entry = numberAt 8 entry 21
 
+abbrev pub feesIn : List ℕ → List ℕ
+feesIn entry = numberAt 8 entry 37 ∷ numberAt 8 entry 45 ∷ numberAt 8 entry 53 ∷ numberAt 8 entry 61 ∷ numberAt 8 entry 69 ∷ []
+
 abbrev pub profileIn : List ℕ → Profile
 profileIn entry = record {
   today = record { 0 = numberAt 8 entry 29 };
-  fees = numberAt 8 entry 37 ∷ numberAt 8 entry 45 ∷ numberAt 8 entry 53 ∷ numberAt 8 entry 61 ∷ numberAt 8 entry 69 ∷ [];
+  fees = asFees (feesIn entry);
   fields = numberAt 8 entry 77;
 }
 
@@ -89,10 +93,12 @@ unfoldable pub entriesFit : ℕ → List ℕ → Bool
 entriesFit zero bytes = eqb (length bytes) 0
 entriesFit (suc n) bytes = entryFits bytes && entriesFit n (drop (entryLength bytes) bytes)
 
+-- Their calls.
 unfoldable pub callsFrom : ℕ → List ℕ → List Call
 callsFrom zero bytes = []
 callsFrom (suc n) bytes = callIn bytes ∷ callsFrom n (drop (entryLength bytes) bytes)
 
+-- A journal: how many calls it has, whether it is one, and its calls.
 abbrev pub countIn : List ℕ → ℕ
 countIn journal = numberAt 8 journal 0
 

@@ -1,3 +1,4 @@
 pub mod Listed
+pub mod SheetAsAnswered
 pub mod Journal
 pub mod Replay

@@ -30,7 +30,7 @@ abbrev pub Chain : List ℕ → List Made → Type 0
 Chain start [] = Unit {0}
 Chain start (made ∷ later) = Does start (made .call) (made .answer) (made .memory) × Chain (made .memory) later
 
--- "Its points are the start and the end of each call": the memory at point p, and the calls with their answers between the points p and p + n.
+-- ".. its points are the start and the end of each call": the memory at point p, and the calls with their answers between the points p and p + n.
 abbrev pub memoryAt : List ℕ → List Made → ℕ → List ℕ
 memoryAt start made zero = start
 memoryAt start [] (suc p) = start
@@ -68,15 +68,15 @@ timesLeftBytes money ident j start (made ∷ later) =
 pub record AtMade (before : List ℕ) (made : Made) : Type 0 where
   -- "Refused calls .. move none of these numbers": they move no byte.
   pub refused : isRefusal (made .answer) ≡ true → made .memory ≡ before
-  -- "Calls for other shipments move none of these numbers."
+  -- ".. calls for other shipments move none of these numbers."
   pub others : (ident : Ident) → isFor ident (made .call) ≡ false → find ident (bookInBytes (made .memory)) ≡ find ident (bookInBytes before)
-  -- "No order's money leaves .. in part."
+  -- ".. no order's money leaves .. in part."
   pub entire : (ident : Ident) (money : Money) → isFor ident (made .call) ≡ true
       → leftBy money (made .call) (made .answer)
       ≡ below (ordersOf (find ident (bookInBytes before)))
       (λ j. onlyIf (leavesBytes money ident j before made) (worth money (feeOf (find ident (bookInBytes before))) (orderByIndex j (find ident (bookInBytes before)))))
       + surplusBy money (made .call) (made .answer)
-  -- A return's count, and "nothing of that money waits there after".
+  -- A return's count, and ".. nothing of that money waits there after."
   pub counted : (ident : Ident) (route : Route) (money : Money) → made .call ≡ On ident (Return route money)
       → countIs (below (ordersOf (find ident (bookInBytes before))) (λ j. onlyIf (leavesBytes money ident j before made) 1)) (made .answer)
   pub emptied : (ident : Ident) (route : Route) (money : Money) → made .call ≡ On ident (Return route money) → isRefusal (made .answer) ≡ false
@@ -103,16 +103,16 @@ pub record Listed (start : List ℕ) (made : List Made) : Type 0 where
   pub books : (p : ℕ) → readBook (memoryAt start made p) ≡ some (bookAt (callsOf made) p)
   pub answers : map eventOf made ≡ events [] (callsOf made)
   -- "Take any two points of the list, any shipment (all zero before its intake), and amounts or fees alone. Transfers accepted between the points equal
-  -- the rise in money its orders hold, plus the rise in its free money, plus all that left": held and free in the bytes at the points, accepted and
+  -- the rise in money its orders hold, plus the rise in its free money, plus all that left ..": held and free in the bytes at the points, accepted and
   -- left by the answers given between them.
   pub conserves : (p n : ℕ) (ident : Ident) (money : Money)
       → heldIn money ident (bookInBytes (memoryAt start made p)) + freeIn money ident (bookInBytes (memoryAt start made p))
       + sumOver (acceptedFor money ident) (madeBetween made p n)
       ≡ heldIn money ident (bookInBytes (memoryAt start made (p + n))) + freeIn money ident (bookInBytes (memoryAt start made (p + n)))
       + sumOver (leftFor money ident) (madeBetween made p n)
-  -- "No free money is ever below zero"
+  -- "No free money is ever below zero .."
   pub never-below-zero : (p : ℕ) (ident : Ident) (money : Money) → Covered money (find ident (bookInBytes (memoryAt start made p)))
-  -- "and no order's money leaves twice or in part."
+  -- ".. and no order's money leaves twice or in part."
   pub never-twice : (money : Money) (ident : Ident) (j : ℕ) → timesLeftBytes money ident j start made ≤ 1
   pub at-each-call : AtEachMade start made
   -- Memory that only these calls write is always a sound book, so that no call but an intake ever answers 10 (of an intake it is document 01's 010),

@@ -2,6 +2,7 @@
 use calendar::date::Date;
 use epe::ident::Ident;
 use epe::profile::Profile;
+use epe::profile::fees_of;
 use memory::name::ident_bytes;
 use memory::number::read_eight;
 use model::Route;
@@ -13,7 +14,8 @@ ghost use mathlib.Core.Bool.{true};
 ghost use Prim.Native.Nat.{_≤_};
 ghost use lib.Dec.{leb};
 ghost use lib.ListN.{length};
-ghost use Rattle.audit.specs.Journal.{identIn, profileIn, routeIn, moneyIn, firstText, secondText, entryLength, entryFits, entriesFit, journalFits};
+ghost use Rattle.epe.specs.Profile.{asFees, feesFit};
+ghost use Rattle.audit.specs.Journal.{identIn, feesIn, profileIn, routeIn, moneyIn, firstText, secondText, entryLength, entryFits, entriesFit, journalFits};
 
 // The identifier of an entry.
 pub fn ident_in(entry: &[u8]) -> Ident
@@ -27,10 +29,10 @@ pub fn ident_in(entry: &[u8]) -> Ident
     }
 }
 
-// The five fees of the profile.
-fn fees_in(entry: &[u8]) -> [u64; 5]
+// The numbers that stand for the five fees of the profile.
+pub fn fees_in(entry: &[u8]) -> [u64; 5]
     requires { ⌜ 101 ≤ length (now entry) ⌝ }
-    ensures { λ r. ⌜ r ≡ profileIn (now (entry .entry)) .fees ⌝ }
+    ensures { λ r. ⌜ r ≡ feesIn (now (entry .entry)) ⌝ }
 {
     [
         read_eight(entry, 37),
@@ -41,12 +43,12 @@ fn fees_in(entry: &[u8]) -> [u64; 5]
     ]
 }
 
-// The profile of an entry.
+// The profile of an entry whose fees are fees.
 pub fn profile_in(entry: &[u8]) -> Profile
-    requires { ⌜ 101 ≤ length (now entry) ⌝ }
+    requires { ⌜ (101 ≤ length (now entry)) × (feesFit (asFees (feesIn (now entry))) ≡ true) ⌝ }
     ensures { λ r. ⌜ r ≡ profileIn (now (entry .entry)) ⌝ }
 {
-    let fees = fees_in(entry);
+    let fees = fees_of(fees_in(entry));
     Profile {
         today: Date(read_eight(entry, 29)),
         fees,

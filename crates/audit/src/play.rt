@@ -1,4 +1,5 @@
 // One call of a journal, made in lent memory.
+use crate::journal::fees_in;
 use crate::journal::first_text;
 use crate::journal::ident_in;
 use crate::journal::money_in;
@@ -6,6 +7,7 @@ use crate::journal::profile_in;
 use crate::journal::route_in;
 use crate::journal::second_text;
 use crate::reply::Reply;
+use crate::reply::refused;
 use crate::reply::tell_acceptance;
 use crate::reply::tell_completion;
 use crate::reply::tell_pairing;
@@ -23,6 +25,8 @@ use book::return_money;
 use book::transfer;
 use book::withdraw;
 use epe::ident::Ident;
+use epe::profile::are_fees;
+use epe::refusals::PROFILE;
 use memory::number::read_eight;
 ghost use mathlib.Core.Path.{_≡_};
 ghost use mathlib.Core.Bool.{true};
@@ -37,6 +41,9 @@ fn play_intake(memory: &mut [u8], entry: &[u8]) -> Reply
     requires { ⌜ entryFits (now entry) ≡ true ⌝ }
     ensures { λ r. ⌜ Plays (now (memory .entry)) (Intake (profileIn (now (entry .entry))) (firstText (now (entry .entry))) (secondText (now (entry .entry)))) r (now (memory .exit)) ⌝ }
 {
+    if !are_fees(fees_in(entry)) {
+        return refused(PROFILE);
+    }
     tell_acceptance(intake(
         memory,
         profile_in(entry),

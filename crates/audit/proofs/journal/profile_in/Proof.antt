@@ -1,10 +1,15 @@
 -- `audit::journal::profile_in` reads number after number.
+use mathlib.Core.Path.{ap, _∙_}
+use Rattle.epe.specs.Profile.{asFees}
 use borrow.Author.Needs.{needs}
 use Rattle.audit.proofs.journal.profile_in.Statement.{statement}
 use Rattle.audit.proofs.journal.profile_in.Tie as tie
 
 fees-in-requires : tie.Need-fees-in-requires
 fees-in-requires c κs = search needs
+
+fees-of-requires : tie.Need-fees-of-requires
+fees-of-requires c κs = rw (c .fees-in .ensures) (c .before .before .pre .1)
 
 read-eight-requires : tie.Need-read-eight-requires
 read-eight-requires c κs = search needs
@@ -15,8 +20,14 @@ read-eight-requires-2 c κs = search needs
 returns : tie.Need-returns
 returns c =
     let today = c .before in
-    λ i. record { today = record { 0 = today .read-eight .ensures i }; fees = today .before .fees-in .ensures i; fields = c .read-eight2 .ensures i }
+    let fees = today .before in
+    λ i. record {
+      today = record { 0 = today .read-eight .ensures i };
+      fees = (fees .fees-of .ensures ∙ ap asFees (fees .before .fees-in .ensures)) i;
+      fields = c .read-eight2 .ensures i;
+    }
 
 pub profile-in-spec : {M : Type 1} → statement M
 profile-in-spec =
-    tie.close (tie.spec fees-in-requires read-eight-requires read-eight-requires-2 returns)
+    tie.close
+    (tie.spec fees-in-requires fees-of-requires read-eight-requires read-eight-requires-2 returns)
