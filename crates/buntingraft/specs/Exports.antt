@@ -8,7 +8,6 @@ use lib.Dec.{leb, eqb}
 use Rattle.money.specs.declared.Money.{Money}
 use Rattle.money.specs.declared.Money.the-variants.{K, O}
 use Rattle.epe.specs.declared.ident.Ident.{Ident}
-use Rattle.epe.specs.declared.profile.Profile.{Profile}
 use Rattle.model.specs.Calls.{Return, On, Answer}
 use Rattle.model.specs.declared.Route.{Route}
 use Rattle.model.specs.declared.Route.the-variants.{Zwr, Opr, Zpr, Zzr}
@@ -22,11 +21,6 @@ use Rattle.sheet.specs.declared.Sheeting.{Sheeting}
 use Rattle.sheet.specs.declared.Sheeting.the-variants.{Filled, Refused}
 use Rattle.sheet.specs.declared.SheetRow.{SheetRow}
 use Rattle.sheet.specs.declared.Totals.{Totals}
-use Rattle.buntingraft.specs.declared.Terms.{Terms}
-
--- A profile as C has it is the profile of its numbers.
-abbrev pub profileOf : Terms → Profile
-profileOf terms = record { today = record { 0 = terms .today }; fees = terms .fees; fields = terms .fields }
 
 -- An empty book was made, or not, and the answer is told.
 pub record Makes (before : List ℕ) (reply : Reply) (after : List ℕ) : Type 0 where

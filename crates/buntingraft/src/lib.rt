@@ -8,7 +8,6 @@ use audit::reply::tell_pairing;
 use audit::reply::tell_payment;
 use audit::reply::tell_posting;
 use audit::reply::tell_returning;
-use calendar::date::Date;
 use epe::ident::ident_of;
 use epe::profile::Profile;
 use memory::SIZE;
@@ -23,15 +22,7 @@ ghost use Rattle.model.specs.Calls.{GoAhead, Pair, Close, OnOrder, Intake, Tran
 ghost use Rattle.model.specs.declared.Deed.the-variants.{Post, Pay, MarkUndelivered, Withdraw};
 ghost use Rattle.memory.specs.Layout.{size};
 ghost use Rattle.audit.specs.Replay.{Plays};
-ghost use Rattle.buntingraft.specs.Exports.{profileOf, routeOf, moneyOf, areKnown, replyToSheet, Makes, Returns, Sheets};
-
-// The profile of an intake, as C has it.
-#[repr(C)]
-pub struct Terms {
-    pub today: u64,
-    pub fees: [u64; 5],
-    pub fields: u64,
-}
+ghost use Rattle.buntingraft.specs.Exports.{routeOf, moneyOf, areKnown, replyToSheet, Makes, Returns, Sheets};
 
 // How many bytes a book takes.
 #[no_mangle]
@@ -53,18 +44,12 @@ pub extern "C" fn buntingraft_make_empty(book: &mut [u8]) -> Reply
 #[no_mangle]
 pub extern "C" fn buntingraft_intake(
     book: &mut [u8],
-    terms: Terms,
+    profile: Profile,
     name: &[u8],
     file: &[u8],
 ) -> Reply
-    ensures { λ r. ⌜ Plays (now (book .entry)) (Intake (profileOf terms) (now (name .entry)) (now (file .entry))) r (now (book .exit)) ⌝ }
+    ensures { λ r. ⌜ Plays (now (book .entry)) (Intake profile (now (name .entry)) (now (file .entry))) r (now (book .exit)) ⌝ }
 {
-    let fees = terms.fees;
-    let profile = Profile {
-        today: Date(terms.today),
-        fees,
-        fields: terms.fields,
-    };
     tell_acceptance(book::intake(book, profile, name, file))
 }
 
