@@ -17,7 +17,7 @@
  * What a caller lends
  *
  *   book   At least buntingraft_book_bytes() bytes. The whole state of a book is in them: they need no alignment, hold no
- *          pointer, and may be copied, written to disk and lent again elsewhere. Bytes behind that length are never touched.
+ *          pointer, and may be copied, written to disk and lent again elsewhere. Bytes behind that length stay as they are.
  *          A fresh book is made by buntingraft_make_empty.
  *   name, file, title, id
  *          Bytes that are only read, with no terminating zero.
@@ -33,7 +33,7 @@
  * What a call answers
  *
  * A reply has a status and two numbers. Refused: first is the number of the first question that was answered no, second is 0,
- * and the book is as it was, byte for byte. Short comes from buntingraft_pair alone, and leaves the book as it was too.
+ * and the book is as it was, byte for byte. Short comes from buntingraft_pair alone, and leaves every byte of the book too.
  *
  * Questions are asked in the order in which they stand below. The numbers of an intake and those of the other calls are two
  * sets: 10, 11, 13, 14, 16, 17, 19, 20, 22 and 23 are in both, and mean different things.
@@ -196,7 +196,7 @@ struct buntingraft_reply buntingraft_go_ahead(uint8_t *book, size_t book_length,
  * Pairs the shipment with its transfers, where they cover what it needs in both moneys.
  *
  * Done: 0, 0, and it is Paired.
- * Short: the grosze missing of K, and those missing of O; it stays as it was.
+ * Short: the grosze missing of K, and those missing of O.
  *
  *    15  Is the shipment Waiting?
  *    18  Has it no faulty order, or a go-ahead?
@@ -282,7 +282,7 @@ struct buntingraft_totals {
 
 /*
  * Fills the balance sheet: a row of the table for each shipment, in order of intake, and adds each row's eight sums to the
- * totals. Rows behind the last shipment's are not touched. The totals go on from what they hold, so that several books can be
+ * totals. Rows behind the last shipment's stay as they are. The totals go on from what they hold, so that several books can be
  * added up; set them to zero first for those of one book. The book is only read, so sheets of the same one may be filled at
  * the same time, each into a table and totals of its own.
  *

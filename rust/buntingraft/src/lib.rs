@@ -10,8 +10,8 @@
 //! A [`Book`] lives in plain bytes: its own, or memory that is lent to it.
 //! Every call answers for every input, with a result or with a [`Refusal`], and
 //! a refusal leaves every byte as it was. What each call does, and each
-//! question that it asks, is said in include/buntingraft.h; the archive behind
-//! it is proved to do so.
+//! question that it asks, is said in include/buntingraft.h; the library behind
+//! it is proved to do what the book of document 01 does.
 //!
 //! # An order file from intake to its sheet
 //!
@@ -66,7 +66,7 @@
 //! let mut memory = [0xAA; BOOK_BYTES + 4];
 //! let book = Book::make_empty_in(&mut memory[..])?;
 //! drop(book);
-//! assert_eq!(memory[BOOK_BYTES..], [0xAA; 4]); // what lies behind a book is never touched
+//! assert_eq!(memory[BOOK_BYTES..], [0xAA; 4]); // what lies behind a book stays as it is
 //!
 //! let mut again = Book::lent(&mut memory[..]); // the bytes are the whole book
 //! assert_eq!(again.close(b"ZS1").unwrap_err().number(), 13);
