@@ -23,7 +23,7 @@ use Rattle.model.specs.declared.Row.{Row}
 use Rattle.model.specs.declared.Stage.the-variants.{Waiting}
 use Rattle.model.specs.declared.State.the-variants.{Open, Faulty}
 
--- "Up to 32 shipments in order of intake."
+-- "Lent memory with up to 32 shipments in order of intake."
 abbrev pub Book : Type 0
 Book = List Shipment
 
@@ -89,7 +89,7 @@ newShipment name fee rows = record {
   rows = rows;
 }
 
--- "fee F (the profile's for its kind)"
+-- ".. fee F (the profile's for its kind) .."
 abbrev pub feeFor : Profile → ℕ → ℕ
 feeFor profile kind = getD (profile .fees) kind (fee 0) .0
 
@@ -109,7 +109,7 @@ takenIn profile name file book =
     (stay (Accepted (length (orders file)) (faultyCount (orders file))) (book ++ (entered profile (nameOf name) (orders file) ∷ []))))))))
 
 -- "Transfer (title, amount): title is a shipment name in the form above, then `-K` or `-O`? 11. Amount 1 to 9,999,999,999,999? 12.
--- Name in the book? 13. Total accepted for that money still at most 9,999,999,999,999? 14."
+-- Name in the book? 13. Total accepted for that money still at most 9,999,999,999,999? 14. .."
 unfoldable pub transferredIn : List ℕ → ℕ → Book → Step
 transferredIn title amount book =
     unlessRefused (titleOf title .verdict) book

@@ -34,7 +34,8 @@ pub data Call : Type 0 where
   Transfer : List ℕ → ℕ → Call
   On : Ident → Act → Call
 
--- "An accepted post answers F, pay the order's amount, a return its sum and count. Pair answers as said below, the others only that they were done."
+-- "An accepted post answers F, pay the order's amount, a return its sum and count; .. Pair answers as said below, the others only that they were
+-- done."
 pub data Answer : Type 0 where
   Refused : ℕ → Answer
   Done : Answer
@@ -153,11 +154,11 @@ withRows rows s = record {
 abbrev pub withState : State → Row → Row
 withState state row = record { amount = row .amount; state = state }
 
--- "Total accepted for that money still at most 9,999,999,999,999? 14. Any stage takes it."
+-- ".. Total accepted for that money still at most 9,999,999,999,999? 14. Any stage takes it."
 unfoldable pub transferred : Money → ℕ → Shipment → Outcome
 transferred money n s = ask (isSum (accepted money s + n)) 14 s (leave Done (withAccepted money n s))
 
--- "Go-ahead: Waiting? 15. Any faulty order? 16. None came before? 17."
+-- "Go-ahead: .. Waiting? 15. Any faulty order? 16. None came before? 17."
 unfoldable pub goneAhead : Shipment → Outcome
 goneAhead s =
     ask (isWaiting (s .stage)) 15 s
@@ -165,7 +166,8 @@ goneAhead s =
     (ask (not (s .goAhead)) 17 s
     (leave Done (withGoAhead s))))
 
--- "Pair: 15. No faults, or go-ahead given? 18. Paired when both needs are covered; Short changes nothing": the two missing amounts.
+-- "Pair: .. 15. No faults, or go-ahead given? 18. Pairing answers Paired, or Short with the two missing amounts, or a refusal. Paired when both needs
+-- are covered; Short changes nothing."
 unfoldable pub paired : Shipment → Outcome
 paired s =
     ask (isWaiting (s .stage)) 15 s
@@ -173,11 +175,11 @@ paired s =
     (choose (leb (need K s) (accepted K s) && leb (need O s) (accepted O s)) (leave IsPaired (withStage Paired s))
     (leave (Short (need K s - accepted K s) (need O s - accepted O s)) s)))
 
--- "Close (WYC or ODR): 15. Waiting becomes Closed."
+-- "Close (WYC or ODR): .. 15. Waiting becomes Closed."
 unfoldable pub closed : Shipment → Outcome
 closed s = ask (isWaiting (s .stage)) 15 s (leave Done (withStage Closed s))
 
--- "Post: Open to Posted, F earned. Pay: Posted to Paid. Undelivered: Posted to Undelivered, K waiting. Withdraw: Open to Withdrawn, both waiting."
+-- ".. Post: Open to Posted, F earned. Pay: Posted to Paid. Undelivered: Posted to Undelivered, K waiting. Withdraw: Open to Withdrawn, both waiting."
 abbrev pub fits : Deed → State → Bool
 fits Post state = isOpen state
 fits Pay state = isPosted state
@@ -203,7 +205,7 @@ noOrder = record { amount = record { 0 = 0 }; state = Paid }
 abbrev pub orderAt : ℕ → Shipment → Row
 orderAt number s = getD (s .rows) (number - 1) noOrder
 
--- "Post, pay, mark undelivered, withdraw one: Paired? 19. Order number from 1 to the count? 20. State fits? 21."
+-- "Post, pay, mark undelivered, withdraw one: .. Paired? 19. Order number from 1 to the count? 20. State fits? 21. .."
 unfoldable pub onOrder : Deed → ℕ → Shipment → Outcome
 onOrder deed number s =
     ask (isPaired (s .stage)) 19 s
@@ -211,7 +213,7 @@ onOrder deed number s =
     (ask (fits deed (orderAt number s .state)) 21 s
     (leave (says deed (s .fee) (orderAt number s)) (withRows (set (s .rows) (number - 1) (withState (becomes deed) (orderAt number s))) s))))
 
--- "OPR, ZPR, ZZR return all that waits in Faulty, Undelivered, Withdrawn orders": whether a money of an order waits on a route.
+-- "OPR, ZPR, ZZR return all that waits in Faulty, Undelivered, Withdrawn orders, ..": whether a money of an order waits on a route.
 abbrev pub takes : Route → State → Bool
 takes Zwr state = false
 takes Opr state = isFaulty state
@@ -221,7 +223,7 @@ takes Zzr state = isWithdrawn state
 abbrev pub waitsOn : Route → Money → Row → Bool
 waitsOn route money row = takes route (row .state) && waits money (row .state)
 
--- "and nothing of that money waits there after"
+-- ".. and nothing of that money waits there after."
 abbrev pub cleared : Money → State → State
 cleared money Open = Open
 cleared money Posted = Posted
@@ -246,7 +248,7 @@ isZprWithO Opr money = false
 isZprWithO Zpr money = byMoney money false true
 isZprWithO Zzr money = false
 
--- "For the rest: Paired? 19. Not ZPR with O? 22. Anything above zero to return? 23."
+-- ".. For the rest: Paired? 19. Not ZPR with O? 22. Anything above zero to return? 23. .."
 unfoldable pub returnedBy : Route → Money → Shipment → Outcome
 returnedBy route money s =
     ask (isPaired (s .stage)) 19 s
@@ -254,7 +256,7 @@ returnedBy route money s =
     (ask (ltb 0 (waiting route money s)) 23 s
     (leave (Returned (waiting route money s) (waitingOrders route money s)) (withRows (map (afterReturn route money) (s .rows)) s))))
 
--- "For ZWR: not Waiting? 24. Anything above zero to return? 23. ZWR returns the free money, count 0."
+-- ".. For ZWR: not Waiting? 24. .. Anything above zero to return? 23. ZWR returns the free money, count 0."
 unfoldable pub surplusReturned : Money → Shipment → Outcome
 surplusReturned money s =
     ask (not (isWaiting (s .stage))) 24 s

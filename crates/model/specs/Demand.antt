@@ -33,7 +33,7 @@ isFor ident (Intake profile name file) = sameIdent ident (nameOf name .ident)
 isFor ident (Transfer title amount) = sameIdent ident (titleOf title .name .ident)
 isFor ident (On other act) = sameIdent ident other
 
--- "Demand 3 counts .. the amounts of the transfer calls answered as done as transfers accepted."
+-- ".. demand 3 counts .. the amounts of the transfer calls answered as done as transfers accepted."
 abbrev pub transferOf : Money → Call → ℕ
 transferOf money (Intake profile name file) = 0
 transferOf money (Transfer title amount) = onlyIf (isMoney money (titleOf title .money)) amount
@@ -49,7 +49,7 @@ acceptedBy money call (FeeEarned fee) = 0
 acceptedBy money call (AmountPaid amount) = 0
 acceptedBy money call (Returned total count) = 0
 
--- "An accepted post answers F, pay the order's amount, a return its sum and count; demand 3 counts these answers as what left."
+-- "An accepted post answers F, pay the order's amount, a return its sum and count; demand 3 counts these answers as what left .."
 abbrev pub returnOf : Money → Call → ℕ → ℕ
 returnOf money (Intake profile name file) total = 0
 returnOf money (Transfer title amount) total = 0
@@ -82,7 +82,7 @@ abbrev pub events : Book → List Call → List Event
 events book [] = []
 events book (call ∷ calls) = record { call = call; answer = step book call .answer } ∷ events (step book call .book) calls
 
--- "Its points are the start and the end of each call": the book at point p, and the events between the points p and p + n.
+-- ".. its points are the start and the end of each call.": the book at point p, and the events between the points p and p + n.
 abbrev pub bookAt : List Call → ℕ → Book
 bookAt calls p = run [] (take p calls)
 
@@ -96,7 +96,7 @@ acceptedFor money ident event = onlyIf (isFor ident (event .call)) (acceptedBy m
 abbrev pub leftFor : Money → Ident → Event → ℕ
 leftFor money ident event = onlyIf (isFor ident (event .call)) (leftBy money (event .call) (event .answer))
 
--- "All zero before its intake."
+-- ".. any shipment (all zero before its intake) .."
 abbrev pub ofShipment : (Shipment → ℕ) → Option Shipment → ℕ
 ofShipment f none = 0
 ofShipment f (some s) = f s
@@ -110,7 +110,7 @@ freeIn money ident book = ofShipment (free money) (find ident book)
 abbrev pub acceptedIn : Money → Ident → Book → ℕ
 acceptedIn money ident book = ofShipment (accepted money) (find ident book)
 
--- "No free money is ever below zero": what is taken from the transfers accepted never exceeds them.
+-- "No free money is ever below zero, ..": what is taken from the transfers accepted never exceeds them.
 abbrev pub Covered : Money → Option Shipment → Type 0
 Covered money none = Unit {0}
 Covered money (some s) = needOncePaired money s + returned money s ≤ accepted money s
@@ -223,15 +223,15 @@ countIs n (Returned total count) = count ≡ n
 pub record AtCall (book : Book) (call : Call) : Type 0 where
   -- "Refused calls .. move none of these numbers."
   pub refused : isRefusal (step book call .answer) ≡ true → step book call .book ≡ book
-  -- "Calls for other shipments move none of these numbers."
+  -- ".. calls for other shipments move none of these numbers."
   pub others : (ident : Ident) → isFor ident call ≡ false → find ident (step book call .book) ≡ find ident book
-  -- "No order's money leaves .. in part": an answer's sum is the whole worth of each order that leaves by it and, for ZWR, the surplus.
+  -- ".. no order's money leaves .. in part.": an answer's sum is the whole worth of each order that leaves by it and, for ZWR, the surplus.
   pub entire : (ident : Ident) (money : Money) → isFor ident call ≡ true
       → leftBy money call (step book call .answer) ≡ leftWithOrders money ident book call + surplusBy money call (step book call .answer)
   -- A return's count.
   pub counted : (ident : Ident) (route : Route) (money : Money) → call ≡ On ident (Return route money)
       → countIs (ordersLeaving money ident book call) (step book call .answer)
-  -- "Nothing of that money waits there after."
+  -- ".. nothing of that money waits there after."
   pub emptied : (ident : Ident) (route : Route) (money : Money) → call ≡ On ident (Return route money) → isRefusal (step book call .answer) ≡ false
       → ofShipment (waiting route money) (find ident (step book call .book)) ≡ 0
 

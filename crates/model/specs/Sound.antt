@@ -31,7 +31,7 @@ faultInRange (Faulty fault k o) = between 1 10 fault
 faultInRange (Undelivered k) = true
 faultInRange (Withdrawn k o) = true
 
--- "States other than Open and Faulty only when Paired, both moneys of a Faulty order waiting unless Paired."
+-- ".. states other than Open and Faulty only when Paired, both moneys of a Faulty order waiting unless Paired, .."
 abbrev pub beforePairing : State → Bool
 beforePairing Open = true
 beforePairing Posted = false
@@ -49,7 +49,7 @@ unfoldable pub rowsSound : Stage → List Row → Bool
 rowsSound stage [] = true
 rowsSound stage (row ∷ rows) = rowSound stage row && rowsSound stage rows
 
--- Accepted and returned are sums, and "transfers accepted are at least surplus returned plus, when Paired, the need".
+-- Accepted and returned are sums, and ".. transfers accepted are at least surplus returned plus, when Paired, the need."
 unfoldable pub moneySound : Money → Shipment → Bool
 moneySound money s =
     isSum (accepted money s)
@@ -71,7 +71,7 @@ unfoldable pub shipmentsSound : Book → Bool
 shipmentsSound [] = true
 shipmentsSound (s ∷ book) = shipmentSound s && (isUnknown (s .name .ident) book && shipmentsSound book)
 
--- "Up to 32 shipments", and 2,048 rows in all.
+-- ".. up to 32 shipments ..", and 2,048 rows in all.
 unfoldable pub sound : Book → Bool
 sound book = leb (length book) 32 && (leb (rowsIn book) 2048 && shipmentsSound book)
 

@@ -1,4 +1,4 @@
--- "Shipment ZS1 and its neighbours. Proved as one table, by one fact, over the definitions."
+-- Document 01, "Shipment ZS1 and its neighbours": "Proved as one table, by one fact, over the definitions."
 use mathlib.Core.Path.{_≡_}
 use mathlib.Core.List.{List, [], _∷_, _++_, map}
 use Prim.Native.Nat.{ℕ}
@@ -20,7 +20,7 @@ use Rattle.model.specs.Demand.{Event, bookAt, eventsBetween, ofShipment,
 use Rattle.model.specs.declared.Deed.the-variants.{Post, Pay, Withdraw}
 use Rattle.model.specs.declared.Route.the-variants.{Zwr, Opr, Zzr}
 
--- "ZS1: orders 100.00, 50.00 (no surname), 25.50; F 350", behind a header: the bytes of its file.
+-- "ZS1: orders 100.00, 50.00 (no surname), 25.50; F 350; ..", behind a header: the bytes of its file.
 abbrev ended : List String → List ℕ
 ended [] = []
 ended (line ∷ lines) = bytes line ++ (0x0D ∷ 0x0A ∷ ended lines)
@@ -73,7 +73,7 @@ abbrev pub firstAnswer : String → String → Answer
 firstAnswer name header = step [] (intake name header) .answer
 
 pub record Table : Type 0 where
-  -- "needs 17,550 and 1,050"
+  -- ".. needs 17,550 and 1,050."
   pub needs : (ofShipment (need K) (find zs1 (bookAt calls 1)) ≡ 17_550) × (ofShipment (need O) (find zs1 (bookAt calls 1)) ≡ 1_050)
   pub line-0 : answers 0 1 ≡ Accepted 3 1 ∷ []
   -- "1. K 17,549 and O 1,050 in; pair: 18."
