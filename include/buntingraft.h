@@ -27,7 +27,8 @@
  * Nothing is kept when a call returns.
  *
  * That is all a caller owes. Every call answers, whatever the bytes and numbers are. The library allocates nothing, has no
- * state of its own, and takes less than 32 KiB of stack, so calls on different books may run at the same time.
+ * state of its own, so calls on different books may run at the same time, and takes less than 32 KiB of stack: the project's
+ * tests make every call on a stack of that size.
  *
  *
  * What a call answers
