@@ -8,7 +8,7 @@ use Prim.Native.Nat.{ℕ}
 use lib.Dec.{eqb}
 use Rattle.text.proofs.Branches.{either-way, and-left, and-right}
 use Rattle.money.specs.declared.Money.{Money}
-use Rattle.epe.specs.Questions.{Question, firstNo}
+use Rattle.epe.specs.Questions.{Question, firstNo, asked}
 use Rattle.epe.specs.Name.{nameQuestions, titleQuestions, titleOf}
 use Rattle.epe.specs.Opening.{fileQuestions, fixedQuestions, repeatedQuestions, openingQuestions, opening}
 use Rattle.epe.specs.Contents.{dateQuestions, statedQuestions, recordQuestions, contentsQuestions, contents}
@@ -59,7 +59,7 @@ module _ (n : ℕ) where
 
   verdict-other : (qs : List Question) (book : Book) (next : Step) → areOther n qs ≡ true → isOther n (next .answer) ≡ true
       → isOther n (unlessRefused (firstNo qs) book next .answer) ≡ true
-  unfolding firstNo unlessRefused
+  unfolding asked unlessRefused
   verdict-other [] book next own later = later
   verdict-other (q ∷ qs) book next own later =
       either-way (q .yes?)

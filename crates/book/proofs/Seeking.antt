@@ -7,7 +7,7 @@ use Prim.Native.Nat.{ℕ}
 use Rattle.text.specs.Bytes.{between}
 use Rattle.text.proofs.Branches.{either-way}
 use Rattle.money.specs.Money.{isTransfer}
-use Rattle.epe.specs.Questions.{Question, firstNo, isPassed}
+use Rattle.epe.specs.Questions.{Question, firstNo, isPassed, asked}
 use Rattle.epe.specs.Name.{titleQuestions, titleOf}
 use Rattle.epe.specs.declared.ident.Ident.{Ident}
 use Rattle.epe.specs.declared.verdict.Verdict.{Verdict}
@@ -29,7 +29,7 @@ passed-is (No number) h = absurd (false≢true h)
 
 -- a title has one question, of the number 11
 one-refused : (q : Question) → isPassed (firstNo (q ∷ [])) ≡ false → firstNo (q ∷ []) ≡ No (q .number)
-unfolding firstNo isPassed
+unfolding asked isPassed
 one-refused q h = either-way (q .yes?) (λ passed. let never = rw passed at h in absurd (true≢false never)) (λ refused. rw refused)
 
 refused-eleven : (title : List ℕ) → isPassed (firstNo (titleQuestions title)) ≡ false → firstNo (titleQuestions title) ≡ No 11

@@ -16,7 +16,7 @@ use Rattle.money.specs.Text.{textOf, together}
 use Rattle.calendar.specs.Calendar.{real, leap, monthLength, inWindow, dayNumber, daysOfYears, daysOfMonths}
 use Rattle.calendar.specs.Reading.{dateOf, dateOfNumber, dateOfDigits, dateInWindow}
 use Rattle.calendar.specs.Time.{clockTime, timeOfNumber, timeOfDay}
-use Rattle.epe.specs.Questions.{firstNo}
+use Rattle.epe.specs.Questions.{asked}
 use Rattle.epe.specs.Ident.{identifier}
 use Rattle.epe.specs.Profile.{asFees, profileFits, feesFit}
 use Rattle.epe.specs.Name.{nameQuestions}
@@ -63,7 +63,7 @@ zs1 = file ("1|ZUS|EPE|1.0|ZS1|ABC123|20201007120000|20201007|A|0|3|175.50" ∷ 
 
 -- names the definitions that the examples compute
 opens : List ℕ → List ℕ → Verdict
-unfolding ascii tailOctet lead2 lead3 lead4 point2 point3 point4 surrogate range2 range3 range4 row2 row3 row4 width wellFormedAfter digit letter letterOrDigit lettersOrDigits same hasByte number numberAfter isNumber valueOf fields onto lines parted withoutLastEnd stray real leap monthLength firstNo identifier nameQuestions marked fileQuestions fixedQuestions repeatedQuestions openingQuestions opening
+unfolding ascii tailOctet lead2 lead3 lead4 point2 point3 point4 surrogate range2 range3 range4 row2 row3 row4 width wellFormedAfter digit letter letterOrDigit lettersOrDigits same hasByte number numberAfter isNumber valueOf fields onto lines parted withoutLastEnd stray real leap monthLength asked identifier nameQuestions marked fileQuestions fixedQuestions repeatedQuestions openingQuestions opening
 opens = opening
 
 holdsOrders : Profile → List ℕ → Verdict

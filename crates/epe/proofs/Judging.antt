@@ -10,7 +10,7 @@ use lib.ListN.{length, length-map}
 use Rattle.text.specs.Bytes.{between, part}
 use Rattle.text.proofs.Branches.{and-left, and-right}
 use Rattle.calendar.specs.Calendar.{real}
-use Rattle.epe.specs.Questions.{Question, firstNo, isPassed}
+use Rattle.epe.specs.Questions.{Question, firstNo, isPassed, asked}
 use Rattle.epe.specs.Contents.{shaped, allShaped, allPriced, total, orderOf, orders, faultyCount, dateQuestions, statedQuestions, recordQuestions, contentsQuestions, contents, judgedOf, linesRead, ordersRead, AcceptedIsRead}
 use Rattle.epe.specs.File.{header, records}
 use Rattle.epe.specs.Profile.{feesFit, profileFits}
@@ -33,7 +33,7 @@ use Rattle.epe.proofs.Walking.{next-of, header-first, records-after}
 -- the four questions of the records, answered by their tally
 pub tally-judges : (fields count sum : ℕ) (lines : List (List ℕ)) (tally : Tally) {before after : List ℕ} → Tallied fields lines tally before after
     → tallyJudged tally count sum ≡ judgedOf (firstNo (recordQuestions fields count sum lines)) (map orderOf lines)
-unfolding tallyJudged judgedOf firstNo recordQuestions
+unfolding tallyJudged judgedOf asked recordQuestions
 tally-judges fields count sum lines tally tallied =
     rw (← tallied .shape) (shape (tally .shaped) refl)
   where
@@ -96,11 +96,11 @@ header-line file t line end same ends lined = rw (header-first file, ← same) (
 module _ (profile : Profile) (file line : List ℕ) (is-header : line ≡ header file) {stated : Stated}
     (told : stated ≡ statedBeside (dateQuestions (profile .today) line ++ statedQuestions line) line) where
   pub stated-unfit : profileFits profile ≡ false → record { verdict = Refused 905; count = stated .count; sum = stated .sum } ≡ statedOf profile file
-  unfolding statedOf statedBeside headerQuestions firstNo
+  unfolding statedOf statedBeside headerQuestions asked
   stated-unfit unfit = rw (unfit, told, is-header)
 
   pub stated-fit : profileFits profile ≡ true → stated ≡ statedOf profile file
-  unfolding statedOf statedBeside headerQuestions firstNo
+  unfolding statedOf statedBeside headerQuestions asked
   stated-fit fits = rw (fits, ← is-header) told
 
 -- the records behind the header, as the code walks them

@@ -13,7 +13,7 @@ use Rattle.text.specs.Fields.{fields, onto}
 use Rattle.money.specs.declared.Money.{Money}
 use Rattle.money.specs.declared.Money.the-variants.{K, O}
 use Rattle.calendar.specs.Calendar.{real, leap, monthLength}
-use Rattle.epe.specs.Questions.{firstNo, isPassed}
+use Rattle.epe.specs.Questions.{firstNo, isPassed, asked}
 use Rattle.epe.specs.Ident.{identifier, identOf, sameIdent, identInForm}
 use Rattle.epe.specs.Profile.{asFees, feesFit, profileFits}
 use Rattle.epe.specs.Name.{nameQuestions, nameOf, titleQuestions, titleOf}
@@ -53,7 +53,7 @@ unfolding identInForm same identifier lettersOrDigits letterOrDigit letter digit
 out-of-form = refl
 
 judged : String → Verdict
-unfolding nameQuestions firstNo same fields onto identifier lettersOrDigits letterOrDigit letter number numberAfter isNumber valueOf digit real leap monthLength
+unfolding nameQuestions asked same fields onto identifier lettersOrDigits letterOrDigit letter number numberAfter isNumber valueOf digit real leap monthLength
 judged s = firstNo (nameQuestions (bytes s))
 
 -- Names that pass: the paper's, both payment kinds, the last kind, 29 February 2000.
@@ -84,7 +84,7 @@ unfolding nameOf identOf identifier lettersOrDigits letterOrDigit letter fields 
 parts = refl
 
 titled : String → Verdict
-unfolding titleOf titleQuestions isPassed nameQuestions firstNo same fields onto identifier lettersOrDigits letterOrDigit letter number numberAfter isNumber valueOf digit real leap monthLength
+unfolding titleOf titleQuestions isPassed nameQuestions asked same fields onto identifier lettersOrDigits letterOrDigit letter number numberAfter isNumber valueOf digit real leap monthLength
 titled s = titleOf (bytes s) .verdict
 
 titles : map titled ("EPEZZS1-201007-A-0-K" ∷ "EPEZZS1-201007-A-0-O" ∷ []) ≡ Passed ∷ Passed ∷ []

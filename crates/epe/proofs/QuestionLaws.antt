@@ -8,7 +8,7 @@ use mathlib.Core.List.{List, [], _∷_, _++_}
 use Prim.Native.Nat.{ℕ}
 use native.Mathlib.Omega.{arith}
 use Rattle.text.proofs.Branches.{either-way}
-use Rattle.epe.specs.Questions.{Question, _elseNo_, AllYes, firstNo, askedNext, RefusedBy, AcceptedIsAllYes, RefusedIsFirstNo}
+use Rattle.epe.specs.Questions.{Question, _elseNo_, AllYes, firstNo, askedNext, RefusedBy, AcceptedIsAllYes, RefusedIsFirstNo, asked}
 use Rattle.epe.specs.declared.verdict.Verdict.{Verdict}
 use Rattle.epe.specs.declared.verdict.Verdict.the-variants.{Passed, Refused}
 
@@ -16,7 +16,7 @@ never : {n : ℕ} → Refused n ≡ Passed → ⊥
 never h = let apart : _≡_ {A = ℕ} 0 1 = cc in omega arith
 
 pub all-yes : AcceptedIsAllYes
-unfolding firstNo
+unfolding asked
 all-yes [] accepted = tt
 all-yes (q ∷ qs) accepted =
     either-way (q .yes?)
@@ -24,7 +24,7 @@ all-yes (q ∷ qs) accepted =
     (λ (refusing : q .yes? ≡ false). absurd (never (rw refusing at accepted)))
 
 pub all-yes-passed : (qs : List Question) → AllYes qs → firstNo qs ≡ Passed
-unfolding firstNo
+unfolding asked
 all-yes-passed [] h = refl
 all-yes-passed (q ∷ qs) h = rw (h .0) (all-yes-passed qs (h .1))
 
@@ -50,7 +50,7 @@ after-yes q said by = record {
 }
 
 pub refused-by : RefusedIsFirstNo
-unfolding firstNo
+unfolding asked
 refused-by [] n refused = absurd (never (sym refused))
 refused-by (q ∷ qs) n refused =
     either-way (q .yes?)
@@ -64,12 +64,12 @@ pub record Asked (ps : List Question) (v : Verdict) : Type 0 where
   pub verdict : v ≡ firstNo ps
 
 pub none-asked : Asked [] Passed
-unfolding firstNo
+unfolding asked
 none-asked = record { verdict = refl }
 
 -- one question more
 one-more : (ps : List Question) (t : Bool) (n : ℕ) → askedNext (firstNo ps) t n ≡ firstNo (ps ++ ((t elseNo n) ∷ []))
-unfolding firstNo askedNext
+unfolding asked askedNext
 one-more [] t n = refl
 one-more (p ∷ ps) t n =
     either-way (p .yes?)

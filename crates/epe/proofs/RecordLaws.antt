@@ -12,7 +12,7 @@ use Rattle.text.specs.Utf8.{codePoints}
 use Rattle.text.proofs.Branches.{and-left, and-right, told-no, told-yes}
 use Rattle.text.proofs.Utf8Counting.{first-counts, counts-at-most}
 use Rattle.epe.specs.File.{field}
-use Rattle.epe.specs.Questions.{Question, _elseNo_, firstNo}
+use Rattle.epe.specs.Questions.{Question, _elseNo_, firstNo, asked}
 use Rattle.epe.specs.Faults.{sized, spaced, unspaced, faultQuestions, faultIn, faultOf}
 use Rattle.epe.specs.Contents.{shaped}
 use Rattle.epe.specs.Tally.{RecordOf}
@@ -59,15 +59,15 @@ unspaced-end (suc n) from line h = absurd (omega arith)
 -- A question answered no gives its number; one answered yes leaves the fault to those behind it.
 module _ (yes : Bool) (n : ℕ) (qs : List Question) where
   pub fault-here : yes ≡ false → n ≡ faultIn (firstNo ((yes elseNo n) ∷ qs))
-  unfolding faultIn firstNo
+  unfolding faultIn asked
   fault-here h = rw h
 
   pub fault-later : (r : ℕ) → yes ≡ true → r ≡ faultIn (firstNo qs) → r ≡ faultIn (firstNo ((yes elseNo n) ∷ qs))
-  unfolding firstNo
+  unfolding asked
   fault-later r h e = rw h e
 
 pub no-fault : 0 ≡ faultIn (firstNo [])
-unfolding faultIn firstNo
+unfolding faultIn asked
 no-fault = refl
 
 -- `search faults depth 12` closes the returns of a function that asks questions in a definition's order.
@@ -75,7 +75,7 @@ pub ruleset faults = (told-no, told-yes, fault-here, fault-later, no-fault)
 
 -- A fault's number is at most that of the last question.
 pub fault-known : (line : List ℕ) → faultOf line ≤ 10
-unfolding faultOf faultIn firstNo faultQuestions
+unfolding faultOf faultIn asked faultQuestions
 fault-known line = search (known, lit≤) depth 30
   where
     known : (t : Bool) (v : Verdict) (n : ℕ) → faultIn v ≤ 10 → n ≤ 10 → faultIn (cond t v (Refused n)) ≤ 10

@@ -15,9 +15,13 @@ pub record Question : Type 0 where
 abbrev pub _elseNo_ : Bool → ℕ → Question
 answer elseNo n = record { yes? = answer; number = n }
 
-unfoldable pub firstNo : List Question → Verdict
-firstNo [] = Passed
-firstNo (q ∷ qs) = cond (q .yes?) (firstNo qs) (Refused (q .number))
+-- What comes of questions, whatever they are asked of: where all are answered yes what comes next, else the refusal with the first "no"'s number.
+unfoldable pub asked {ℓ} : {A : Type ℓ} → List Question → (ℕ → A) → A → A
+asked [] refused next = next
+asked (q ∷ qs) refused next = cond (q .yes?) (asked qs refused next) (refused (q .number))
+
+abbrev pub firstNo : List Question → Verdict
+firstNo qs = asked qs Refused Passed
 
 -- One question more after a verdict: an earlier "no" stays.
 unfoldable pub askedNext : Verdict → Bool → ℕ → Verdict
