@@ -1,9 +1,12 @@
 -- What a verdict says of its questions, and questions asked one after the other.
 --     all-yes, refused-by        the two promises of `Questions`; all-yes-passed is the way back
+--     asked-no, asked-yes        what comes of the first question, whatever is asked and whatever comes of it
+--     asked-none, asked-append   no question, and questions behind others
+--     asked-either               what holds of every refusal, and of what comes next where all are answered yes, holds of what is asked
 --     none-asked, next           the verdict of a function that asks its questions in order, a `next` for each
 -- Assumes nothing.
 use mathlib.Core.Path.{_≡_, refl, sym, _∙_, ap}
-use mathlib.Core.Bool.{Bool, true, false}
+use mathlib.Core.Bool.{Bool, true, false, cond}
 use mathlib.Core.List.{List, [], _∷_, _++_}
 use Prim.Native.Nat.{ℕ}
 use native.Mathlib.Omega.{arith}
@@ -11,6 +14,39 @@ use Rattle.text.proofs.Branches.{either-way}
 use Rattle.epe.specs.Questions.{Question, _elseNo_, AllYes, firstNo, askedNext, RefusedBy, AcceptedIsAllYes, RefusedIsFirstNo, asked}
 use Rattle.epe.specs.declared.verdict.Verdict.{Verdict}
 use Rattle.epe.specs.declared.verdict.Verdict.the-variants.{Passed, Refused}
+
+-- What comes of questions, whatever is refused and whatever comes next.
+module _ {ℓ} {A : Type ℓ} where
+  pub asked-no : {answer : Bool} (n : ℕ) (qs : List Question) (refused : ℕ → A) (next : A) → answer ≡ false
+      → asked ((answer elseNo n) ∷ qs) refused next ≡ refused n
+  unfolding asked
+  asked-no n qs refused next h = rw h
+
+  pub asked-yes : {answer : Bool} (n : ℕ) (qs : List Question) (refused : ℕ → A) (next : A) → answer ≡ true
+      → asked ((answer elseNo n) ∷ qs) refused next ≡ asked qs refused next
+  unfolding asked
+  asked-yes n qs refused next h = rw h
+
+  pub asked-none : (refused : ℕ → A) (next : A) → asked [] refused next ≡ next
+  unfolding asked
+  asked-none refused next = refl
+
+  pub asked-append : (ps qs : List Question) (refused : ℕ → A) (next : A)
+      → asked (ps ++ qs) refused next ≡ asked ps refused (asked qs refused next)
+  unfolding asked
+  asked-append [] qs refused next = refl
+  asked-append (p ∷ ps) qs refused next = ap (λ (rest : A). cond (p .yes?) rest (refused (p .number))) (asked-append ps qs refused next)
+
+  pub asked-either {m} : (P : A → Type m) (qs : List Question) (refused : ℕ → A) (next : A)
+      → ((n : ℕ) → P (refused n)) → (AllYes qs → P next) → P (asked qs refused next)
+  unfolding asked
+  asked-either P [] refused next if-refused if-all-yes = if-all-yes tt
+  asked-either P (q ∷ qs) refused next if-refused if-all-yes =
+      go (q .yes?) (λ said. asked-either P qs refused next if-refused (λ all. if-all-yes (said, all)))
+    where
+      go : (t : Bool) → (t ≡ true → P (asked qs refused next)) → P (cond t (asked qs refused next) (refused (q .number)))
+      go true rest = rest refl
+      go false rest = if-refused (q .number)
 
 never : {n : ℕ} → Refused n ≡ Passed → ⊥
 never h = let apart : _≡_ {A = ℕ} 0 1 = cc in omega arith
