@@ -5,7 +5,7 @@ use mathlib.Core.Bool.{Bool, true, false}
 use mathlib.Core.List.{List}
 use Prim.Native.Nat.{ℕ}
 use Rattle.model.specs.Shipment.{Shipment}
-use Rattle.model.specs.Calls.{Answer, Refused, changesNothing, Outcome, leave, ask, withRows}
+use Rattle.model.specs.Calls.{Answer, Refused, changesNothing, Outcome, leave, withRows}
 use Rattle.model.specs.declared.Row.{Row}
 use Rattle.model.proofs.Asking.{not-both}
 use Rattle.memory.specs.Layout.{headBytes, OnlyHead}
@@ -14,15 +14,6 @@ use Rattle.memory.specs.Read.{rowsFrom, ordersAt, shipmentAt}
 use Rattle.book.specs.Place.{OnlyShipment, ActAt}
 use Rattle.book.proofs.Frames.{only-nothing, head-of-shipment}
 use Rattle.book.proofs.RowLaws.{rows-alike}
-
--- a question of a shipment
-pub ask-yes : (t : Bool) (number : ℕ) (s : Shipment) (next : Outcome) → t ≡ true → ask t number s next ≡ next
-unfolding ask
-ask-yes t number s next h = rw h
-
-pub ask-no : (t : Bool) (number : ℕ) (s : Shipment) (next : Outcome) → t ≡ false → ask t number s next ≡ leave (Refused number) s
-unfolding ask
-ask-no t number s next h = rw h
 
 module _ {m : List ℕ} {i k : ℕ} {does : Shipment → Outcome} where
   pub left-at : {answer : Answer} → does (shipmentAt m i k) ≡ leave answer (shipmentAt m i k) → ActAt m i k does answer m

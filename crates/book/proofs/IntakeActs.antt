@@ -11,8 +11,8 @@ use lib.ListN.{length, getD, length-replicate}
 use Rattle.text.proofs.Branches.{and-left, and-right, either-way}
 use Rattle.epe.specs.Name.{nameOf, nameInForm}
 use Rattle.epe.specs.Profile.{profileFits}
-use Rattle.epe.specs.Opening.{opening, openingOf}
-use Rattle.epe.specs.Contents.{contents, orders, faultyCount, judgedOf}
+use Rattle.epe.specs.Opening.{openingQuestions, opening, openingOf}
+use Rattle.epe.specs.Contents.{contentsQuestions, contents, orders, faultyCount, judgedOf}
 use Rattle.epe.specs.Steps.{noneKept, Records, statedOf, recordsBehind}
 use Rattle.epe.specs.Accepted.{EachInRange}
 use Rattle.epe.specs.Kept.{ordersIn, keptFrom}
@@ -26,9 +26,10 @@ use Rattle.epe.specs.declared.verdict.Verdict.the-variants.{Passed, Refused as 
 use Rattle.epe.proofs.AcceptedAsStated.{accepted-as-stated}
 use Rattle.epe.proofs.Judging.{two-steps-are-contents}
 use Rattle.epe.proofs.Keeping.{kept-in-order}
+use Rattle.epe.proofs.QuestionLaws.{asked-no, asked-yes, asked-none, asked-refused, asked-passed}
 use Rattle.model.specs.Shipment.{Shipment}
 use Rattle.model.specs.Calls.{Call, Intake, Answer, Refused, Accepted}
-use Rattle.model.specs.Book.{feeFor, Book, Step, stay, inquire, unlessRefused, isUnknown, rowsIn, enteredRow, newShipment, entered, takenIn, step}
+use Rattle.model.specs.Book.{feeFor, Book, stay, isUnknown, rowsIn, enteredRow, newShipment, entered, intakeQuestions, takenIn, step}
 use Rattle.model.specs.Sound.{sound}
 use Rattle.model.proofs.SoundParts.{halves}
 use Rattle.model.proofs.StaysSound.{stays-sound, opened-in-form, fee-fits}
@@ -47,20 +48,13 @@ pub kind-below : (name : Name) → nameInForm name ≡ true → name .kind ≤ 4
 unfolding nameInForm
 kind-below name h = leb-true (name .kind) 4 (search halves)
 
--- a question of the book
-inquire-yes : (t : Bool) (number : ℕ) (book : Book) (next : Step) → t ≡ true → inquire t number book next ≡ next
-unfolding inquire
-inquire-yes t number book next h = rw h
-
-inquire-no : (t : Bool) (number : ℕ) (book : Book) (next : Step) → t ≡ false → inquire t number book next ≡ stay (Refused number) book
-unfolding inquire
-inquire-no t number book next h = rw h
-
 -- where there are too many orders no shipment is entered, whatever it would be
-too-many : (s s′ : Shipment) (n faulty : ℕ) (book : Book) → 2_048 < n → enteredIn s n faulty book ≡ enteredIn s′ n faulty book
+too-many : (s s′ : Shipment) (n faulty : ℕ) (book : Book) → 2_048 < n → enteredIn [] s n faulty book ≡ enteredIn [] s′ n faulty book
 too-many s s′ n faulty book many =
     let full = lt-leb (rowsIn book + n) 2048 (omega arith) in
-    ap (inquire (ltb (length book) 32) 903 book) (inquire-no _ 904 _ _ full ∙ sym (inquire-no _ 904 _ _ full))
+    either-way (ltb (length book) 32)
+    (λ few. asked-yes 903 _ _ _ few ∙ asked-no 904 _ _ _ full ∙ sym (asked-yes 903 _ _ _ few ∙ asked-no 904 _ _ _ full))
+    (λ none. asked-no 903 _ _ _ none ∙ sym (asked-no 903 _ _ _ none))
 
 -- n orders that a table keeps, for a book of i shipments
 module _ (m : List ℕ) (i : ℕ) (name : Name) (fee n faulty : ℕ) (kept : List ℕ) (opened : Opened m i name fee) where
@@ -71,11 +65,10 @@ module _ (m : List ℕ) (i : ℕ) (name : Name) (fee n faulty : ℕ) (kept : Lis
   unfolding bookIn
   book-length = shipments-many m 0 0 (shipmentsIn m) ∙ sym (opened .last)
 
-  pub no-shipment-left : 32 ≤ i → DoesEnter Passed new n faulty m (Refused 903) m
-  unfolding unlessRefused
+  pub no-shipment-left : 32 ≤ i → DoesEnter [] new n faulty m (Refused 903) m
   no-shipment-left full = record {
     by-call = λ call stepped.
-        stays (opened .sound) (stepped ∙ inquire-no _ 903 _ _ (le-ltb (length (bookIn m)) 32 (omega (arith, book-length))));
+        stays (opened .sound) (stepped ∙ asked-no 903 _ _ _ (le-ltb (length (bookIn m)) 32 (omega (arith, book-length))));
   }
 
   module _ (few : i < 32) {k : ℕ} (is-from : k ≡ rowsIn (shipmentsFrom m 0 0 i)) where
@@ -90,14 +83,13 @@ module _ (m : List ℕ) (i : ℕ) (name : Name) (fee n faulty : ℕ) (kept : Lis
     few-enough = lt-ltb (length (bookIn m)) 32 (omega (arith, book-length))
 
     module _ (counted : Counted n kept) where
-      pub no-row-left : 2_048 - k < n → DoesEnter Passed new n faulty m (Refused 904) m
-      unfolding unlessRefused
+      pub no-row-left : 2_048 - k < n → DoesEnter [] new n faulty m (Refused 904) m
       no-row-left full = record {
         by-call = λ call stepped.
             stays (opened .sound)
             (stepped
-            ∙ inquire-yes _ 903 _ _ few-enough
-            ∙ inquire-no _ 904 _ _ (lt-leb (rowsIn (bookIn m) + n) 2048 (omega (arith, from-is, from-within))));
+            ∙ asked-yes 903 _ _ _ few-enough
+            ∙ asked-no 904 _ _ _ (lt-leb (rowsIn (bookIn m) + n) 2048 (omega (arith, from-is, from-within))));
       }
 
       pub fits-behind : n ≤ 2_048 - k → Fits m i k name fee n kept
@@ -112,15 +104,16 @@ module _ (m : List ℕ) (i : ℕ) (name : Name) (fee n faulty : ℕ) (kept : Lis
         fee-fits = opened .fee-fits;
       }
 
-      pub entered-behind : {m′ : List ℕ} → n ≤ 2_048 - k → ShipmentEntered new m m′ → DoesEnter Passed new n faulty m (Accepted n faulty) m′
-      unfolding unlessRefused soundIn
+      pub entered-behind : {m′ : List ℕ} → n ≤ 2_048 - k → ShipmentEntered new m m′ → DoesEnter [] new n faulty m (Accepted n faulty) m′
+      unfolding soundIn
       entered-behind {m′} room done = record {
         by-call = λ call stepped.
             let parts = sound-parts m (opened .sound) in
             let taken : step (bookIn m) call ≡ record { book = bookIn m′; answer = Accepted n faulty }
             = stepped
-            ∙ inquire-yes _ 903 _ _ few-enough
-            ∙ inquire-yes _ 904 _ _ (le-leb (rowsIn (bookIn m) + n) 2048 (omega (arith, from-is, from-within)))
+            ∙ asked-yes 903 _ _ _ few-enough
+            ∙ asked-yes 904 _ _ _ (le-leb (rowsIn (bookIn m) + n) 2048 (omega (arith, from-is, from-within)))
+            ∙ asked-none _ _
             ∙ (λ t. record { book = sym (done .book) t; answer = Accepted n faulty }) in
             let enough = le-leb size (length m′) (rw (done .as-long) (parts .enough)) in
             let book : sound (bookIn m′) ≡ true = rw taken at (stays-sound .keeps (bookIn m) call (parts .book)) in
@@ -148,11 +141,10 @@ module _ (m : List ℕ) (i : ℕ) (profile : Profile) (name : Name) (file : List
   refused-with (No n) number h = cc
 
   pub contents-refused : {number : ℕ} → contents profile file ≡ No number
-      → DoesEnter (contents profile file) (entered profile name (orders file)) (length (orders file)) (faultyCount (orders file)) m (Refused number) m
-  unfolding unlessRefused
+      → DoesEnter (contentsQuestions profile file) (entered profile name (orders file)) (length (orders file)) (faultyCount (orders file)) m (Refused number) m
+  unfolding contents
   contents-refused verdict = record {
-    by-call = λ call stepped.
-        stays is-sound (stepped ∙ ap (λ v. unlessRefused v (bookIn m) (enteredIn (entered profile name (orders file)) (length (orders file)) (faultyCount (orders file)) (bookIn m))) verdict);
+    by-call = λ call stepped. stays is-sound (stepped ∙ asked-refused _ _ _ (contentsQuestions profile file) verdict);
   }
 
   -- the records of a file whose header has passed
@@ -161,7 +153,7 @@ module _ (m : List ℕ) (i : ℕ) (profile : Profile) (name : Name) (file : List
     is-result = ap (λ (all : Records). all .judged) are-records ∙ two-steps-are-contents .second-decides profile file headed
 
     pub records-refused : {number : ℕ} → records .judged ≡ judged.Refused number
-        → DoesEnter (contents profile file) (entered profile name (orders file)) (length (orders file)) (faultyCount (orders file)) m (Refused number) m
+        → DoesEnter (contentsQuestions profile file) (entered profile name (orders file)) (length (orders file)) (faultyCount (orders file)) m (Refused number) m
     records-refused {number} refused = contents-refused (refused-with (contents profile file) number (sym is-result ∙ refused))
 
     module _ {n faulty : ℕ} (accepted : records .judged ≡ judged.Accepted n faulty) where
@@ -186,17 +178,17 @@ module _ (m : List ℕ) (i : ℕ) (profile : Profile) (name : Name) (file : List
       pub counted : Counted n kept
       counted = record { in-range = λ few. rw (in-table few) in-range }
 
-      entered-alike : enteredIn (of-orders (orders file)) n faulty (bookIn m) ≡ enteredIn (of-orders (ordersIn kept 0 n)) n faulty (bookIn m)
+      entered-alike : enteredIn [] (of-orders (orders file)) n faulty (bookIn m) ≡ enteredIn [] (of-orders (ordersIn kept 0 n)) n faulty (bookIn m)
       entered-alike =
-          either-way (leb n 2048) (λ few. ap (λ os. enteredIn (of-orders os) n faulty (bookIn m)) (sym (in-table (leb-true n 2048 few))))
+          either-way (leb n 2048) (λ few. ap (λ os. enteredIn [] (of-orders os) n faulty (bookIn m)) (sym (in-table (leb-true n 2048 few))))
           (λ many. too-many (of-orders (orders file)) (of-orders (ordersIn kept 0 n)) n faulty (bookIn m) (leb-false n 2048 many))
 
-      pub contents-accepted : {answer : Answer} {m′ : List ℕ} → DoesEnter Passed (of-orders (ordersIn kept 0 n)) n faulty m answer m′
-          → DoesEnter (contents profile file) (entered profile name (orders file)) (length (orders file)) (faultyCount (orders file)) m answer m′
-      unfolding entered
+      pub contents-accepted : {answer : Answer} {m′ : List ℕ} → DoesEnter [] (of-orders (ordersIn kept 0 n)) n faulty m answer m′
+          → DoesEnter (contentsQuestions profile file) (entered profile name (orders file)) (length (orders file)) (faultyCount (orders file)) m answer m′
+      unfolding entered contents
       contents-accepted enters =
-          rw (passed .0, ← is-fee, ← passed .1 .0, ← passed .1 .1)
-          (record { by-call = λ call stepped. enters .by-call call (stepped ∙ ap (unlessRefused Passed (bookIn m)) entered-alike) })
+          rw (← is-fee, ← passed .1 .0, ← passed .1 .1)
+          (record { by-call = λ call stepped. enters .by-call call (stepped ∙ asked-passed _ _ _ (contentsQuestions profile file) (passed .0) ∙ entered-alike) })
 
 -- the questions before the contents
 module _ (m : List ℕ) (profile : Profile) (name file : List ℕ) where
@@ -205,8 +197,8 @@ module _ (m : List ℕ) (profile : Profile) (name file : List ℕ) where
 
   -- "Profile within the ranges above? 905"
   profile-no : profileFits profile ≡ false → step (bookIn m) call ≡ stay (Refused 905) (bookIn m)
-  unfolding step takenIn inquire
-  profile-no unfit = rw unfit
+  unfolding step takenIn intakeQuestions
+  profile-no unfit = asked-no 905 _ _ _ unfit
 
   pub profile-refused : profileFits profile ≡ false → Does m call (Refused 905) m
   profile-refused unfit =
@@ -218,21 +210,22 @@ module _ (m : List ℕ) (profile : Profile) (name file : List ℕ) where
 
     module _ (held : soundIn m ≡ true) where
       pub opening-refused : {number : ℕ} → opening name file ≡ No number → Does m call (Refused number) m
-      unfolding step takenIn inquire unlessRefused
-      opening-refused refused = stays held (rw (fits, refused))
+      unfolding step takenIn intakeQuestions opening
+      opening-refused refused = stays held (asked-yes 905 _ _ _ fits ∙ asked-refused _ _ _ (openingQuestions name file) refused)
 
       module _ (passed : opening name file ≡ Passed) where
         -- "Identifier not yet in the book? 101"
         pub known-refused : isUnknown (nameOf name .ident) (bookIn m) ≡ false → Does m call (Refused 101) m
-        unfolding step takenIn inquire unlessRefused
-        known-refused known = stays held (rw (fits, passed, known))
+        unfolding step takenIn intakeQuestions opening
+        known-refused known =
+            stays held (asked-yes 905 _ _ _ fits ∙ asked-passed _ _ _ (openingQuestions name file) passed ∙ asked-no 101 _ _ _ known)
 
         pub contents-next : isUnknown (nameOf name .ident) (bookIn m) ≡ true
             → step (bookIn m) call
-            ≡ unlessRefused (contents profile file) (bookIn m)
-            (enteredIn (entered profile (nameOf name) (orders file)) (length (orders file)) (faultyCount (orders file)) (bookIn m))
-        unfolding step takenIn inquire unlessRefused
-        contents-next unknown = rw (fits, passed, unknown)
+            ≡ enteredIn (contentsQuestions profile file) (entered profile (nameOf name) (orders file)) (length (orders file)) (faultyCount (orders file)) (bookIn m)
+        unfolding step takenIn intakeQuestions opening
+        contents-next unknown =
+            asked-yes 905 _ _ _ fits ∙ asked-passed _ _ _ (openingQuestions name file) passed ∙ asked-yes 101 _ _ _ unknown
 
     -- as code has the opening
     module _ (held : soundIn m ≡ true) {opened-file : Opening} (is-opened : opened-file ≡ openingOf name file) where
@@ -262,10 +255,10 @@ module _ (m : List ℕ) (profile : Profile) (name file : List ℕ) where
           known-at known = known-refused held (sym verdict-is ∙ passed) (unknown-test ∙ known)
 
           pub taken-at : unknown ≡ true → {answer : Answer} {m′ : List ℕ}
-              → DoesEnter (contents profile file) (entered profile (opened-file .name) (orders file)) (length (orders file)) (faultyCount (orders file)) m answer m′
+              → DoesEnter (contentsQuestions profile file) (entered profile (opened-file .name) (orders file)) (length (orders file)) (faultyCount (orders file)) m answer m′
               → Does m call answer m′
           taken-at new enters =
               enters .by-call call
               (contents-next held (sym verdict-is ∙ passed) (unknown-test ∙ new)
-              ∙ ap (λ (n : Name). unlessRefused (contents profile file) (bookIn m) (enteredIn (entered profile n (orders file)) (length (orders file)) (faultyCount (orders file)) (bookIn m)))
+              ∙ ap (λ (n : Name). enteredIn (contentsQuestions profile file) (entered profile n (orders file)) (length (orders file)) (faultyCount (orders file)) (bookIn m))
               (sym name-is))

@@ -12,6 +12,7 @@ use Rattle.text.specs.Bytes.{between}
 use Rattle.text.proofs.Branches.{and-left, and-right}
 use Rattle.money.specs.declared.Amount.{Amount}
 use Rattle.money.specs.declared.Fee.{Fee}
+use Rattle.epe.proofs.QuestionLaws.{asked-no, asked-yes, asked-none}
 use Rattle.model.specs.Shipment.{Shipment, isPaired}
 use Rattle.model.specs.Calls.{FeeEarned, Refused, changesNothing, leave, withRows, withState, fits, becomes, says, noOrder, orderAt, onOrder}
 use Rattle.model.specs.Sound.{faultInRange}
@@ -31,7 +32,7 @@ use Rattle.book.specs.declared.order.Handling.the-variants.{Handled}
 use Rattle.book.proofs.Frames.{row-of-shipment}
 use Rattle.book.proofs.RowLaws.{row-at, rows-set}
 use Rattle.memory.proofs.HeadFields.{orders-are, fee-is, paired-is}
-use Rattle.book.proofs.Acting.{ask-yes, ask-no, refused-at, rows-changed}
+use Rattle.book.proofs.Acting.{refused-at, rows-changed}
 
 becomes-in-range : (deed : Deed) → faultInRange (becomes deed) ≡ true
 becomes-in-range Post = refl
@@ -62,7 +63,7 @@ module _ (m : List ℕ) (i k : ℕ) (deed : Deed) (number : ℕ) {head : List �
 
     pub unpaired-at : paired ≡ false → ActAt m i k (onOrder deed number) (Refused 19) m
     unfolding onOrder
-    unpaired-at unpaired = refused-at (ask-no _ 19 _ _ (paired-test ∙ unpaired))
+    unpaired-at unpaired = refused-at (asked-no 19 _ _ _ (paired-test ∙ unpaired))
 
     -- "Order number from 1 to the count? 20"
     module _ (held : paired ≡ true) {n : ℕ} (is-count : n ≡ numberAt 2 head 30) {within : Bool} (is-within : within ≡ between 1 n number) where
@@ -75,7 +76,7 @@ module _ (m : List ℕ) (i k : ℕ) (deed : Deed) (number : ℕ) {head : List �
 
       pub no-order-at : within ≡ false → ActAt m i k (onOrder deed number) (Refused 20) m
       unfolding onOrder
-      no-order-at outside = refused-at (ask-yes _ 19 _ _ (paired-test ∙ held) ∙ ask-no _ 20 _ _ (within-is ∙ outside))
+      no-order-at outside = refused-at (asked-yes 19 _ _ _ (paired-test ∙ held) ∙ asked-no 20 _ _ _ (within-is ∙ outside))
 
       -- the order is one of the shipment
       module _ (inside : within ≡ true) where
@@ -98,7 +99,7 @@ module _ (m : List ℕ) (i k : ℕ) (deed : Deed) (number : ℕ) {head : List �
           unfolding onOrder
           unfit-at unfit =
               refused-at
-              (ask-yes _ 19 _ _ (paired-test ∙ held) ∙ ask-yes _ 20 _ _ (within-is ∙ inside) ∙ ask-no _ 21 _ _ (fitting-is ∙ unfit))
+              (asked-yes 19 _ _ _ (paired-test ∙ held) ∙ asked-yes 20 _ _ _ (within-is ∙ inside) ∙ asked-no 21 _ _ _ (fitting-is ∙ unfit))
 
           pub handled-at : (sits : Sits m i k) (fee : Fee) → fee .0 ≡ numberAt 4 head 24 → fitting ≡ true
               → ActAt m i k (onOrder deed number) (handlingOf deed (Handled fee (row .amount))) (withCodeAt m (k + (number - 1)) (codeOf (becomes deed)))
@@ -113,8 +114,9 @@ module _ (m : List ℕ) (i k : ℕ) (deed : Deed) (number : ℕ) {head : List �
               (stored .only there .heads i (sits .few))
               (rows-set m _ k (ordersAt m i) (number - 1) (omega (arith, from-one, to-count)) (stored .only there .other-rows)
               ∙ ap (set (rowsFrom m k (ordersAt m i)) (number - 1)) (new ∙ ap (withState (becomes deed)) (sym order-is)))
-              (ask-yes _ 19 _ _ (paired-test ∙ held)
-              ∙ ask-yes _ 20 _ _ (within-is ∙ inside)
-              ∙ ask-yes _ 21 _ _ (fitting-is ∙ fit)
+              (asked-yes 19 _ _ _ (paired-test ∙ held)
+              ∙ asked-yes 20 _ _ _ (within-is ∙ inside)
+              ∙ asked-yes 21 _ _ _ (fitting-is ∙ fit)
+              ∙ asked-none _ _
               ∙ ap (λ answer. leave answer (withRows (set (s .rows) (number - 1) (withState (becomes deed) (orderAt number s))) s))
               (handled-says deed fee (s .fee) (orderAt number s) (is-fee ∙ fee-is m i k is-head) ∙ ap (λ (order : Row). handlingOf deed (Handled fee (order .amount))) (order-is ∙ sym row-is)))

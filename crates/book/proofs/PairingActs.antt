@@ -1,7 +1,7 @@
 -- A go-ahead and pairing, at the place of a shipment.
 -- Assumes nothing.
 use mathlib.Core.Path.{_≡_, refl, sym, ap, _∙_}
-use mathlib.Core.Bool.{Bool, true, false, not, _&&_, _||_, or-comm}
+use mathlib.Core.Bool.{Bool, true, false, not, cond, _&&_, _||_, or-comm}
 use mathlib.Core.List.{List}
 use Prim.Native.Nat.{ℕ, _+_, _*_, _-_}
 use lib.Dec.{leb, ltb}
@@ -10,8 +10,9 @@ use Rattle.money.specs.declared.Money.the-variants.{K, O}
 use Rattle.money.specs.Money.{amount, fee}
 use Rattle.money.specs.declared.Amount.{Amount}
 use Rattle.money.specs.declared.Fee.{Fee}
+use Rattle.epe.proofs.QuestionLaws.{asked-no, asked-yes, asked-none}
 use Rattle.model.specs.Shipment.{Shipment, accepted, isWaiting, need, sumOver, anyFaulty}
-use Rattle.model.specs.Calls.{Refused, Done, IsPaired, Short, Outcome, leave, choose, goneAhead, paired}
+use Rattle.model.specs.Calls.{Refused, Done, IsPaired, Short, Outcome, leave, goneAhead, paired}
 use Rattle.model.specs.declared.Row.{Row}
 use Rattle.model.specs.declared.Stage.the-variants.{Paired}
 use Rattle.memory.specs.Number.{numberAt}
@@ -20,17 +21,15 @@ use Rattle.memory.specs.Heads.{stageOf, stageByte, goAheadIn, acceptedAt}
 use Rattle.memory.specs.Read.{rowsFrom, shipmentAt, Sits}
 use Rattle.book.specs.Place.{ActAt}
 use Rattle.memory.proofs.HeadFields.{waiting-is, go-ahead-is, accepted-is}
-use Rattle.book.proofs.Acting.{ask-yes, ask-no, left-at, refused-at}
+use Rattle.book.proofs.Acting.{left-at, refused-at}
 use Rattle.book.proofs.HeadActs.{stage-changed, go-ahead-changed}
 use Rattle.book.proofs.Needs.{covered-is, neither, need-in-fees, need-in-amounts, faulty-is}
 
-choose-first : (t : Bool) (a b : Outcome) → t ≡ true → choose t a b ≡ a
-unfolding choose
-choose-first t a b h = rw h
+first-chosen : (t : Bool) (a b : Outcome) → t ≡ true → cond t a b ≡ a
+first-chosen t a b h = rw h
 
-choose-second : (t : Bool) (a b : Outcome) → t ≡ false → choose t a b ≡ b
-unfolding choose
-choose-second t a b h = rw h
+second-chosen : (t : Bool) (a b : Outcome) → t ≡ false → cond t a b ≡ b
+second-chosen t a b h = rw h
 
 module _ (m : List ℕ) (i k : ℕ) (sits : Sits m i k) {head : List ℕ} (is-head : head ≡ headBytes m i) where
   abbrev s : Shipment
@@ -43,11 +42,11 @@ module _ (m : List ℕ) (i k : ℕ) (sits : Sits m i k) {head : List ℕ} (is-he
 
     pub no-go-ahead-at : waiting ≡ false → ActAt m i k goneAhead (Refused 15) m
     unfolding goneAhead
-    no-go-ahead-at other = refused-at (ask-no _ 15 _ _ (waiting-test ∙ other))
+    no-go-ahead-at other = refused-at (asked-no 15 _ _ _ (waiting-test ∙ other))
 
     pub no-pairing-at : waiting ≡ false → ActAt m i k paired (Refused 15) m
     unfolding paired
-    no-pairing-at other = refused-at (ask-no _ 15 _ _ (waiting-test ∙ other))
+    no-pairing-at other = refused-at (asked-no 15 _ _ _ (waiting-test ∙ other))
 
     module _ (held : waiting ≡ true) {n : ℕ} (is-count : n ≡ numberAt 2 head 30) where
       -- "Any faulty order? 16. None came before? 17."
@@ -57,7 +56,7 @@ module _ (m : List ℕ) (i k : ℕ) (sits : Sits m i k) {head : List ℕ} (is-he
 
         pub no-faults-at : faulty ≡ false → ActAt m i k goneAhead (Refused 16) m
         unfolding goneAhead
-        no-faults-at none = refused-at (ask-yes _ 15 _ _ (waiting-test ∙ held) ∙ ask-no _ 16 _ _ (sym faulty-test ∙ none))
+        no-faults-at none = refused-at (asked-yes 15 _ _ _ (waiting-test ∙ held) ∙ asked-no 16 _ _ _ (sym faulty-test ∙ none))
 
         module _ (faults : faulty ≡ true) {came : Bool} (is-came : came ≡ goAheadIn head) where
           came-test : came ≡ s .goAhead
@@ -67,17 +66,18 @@ module _ (m : List ℕ) (i k : ℕ) (sits : Sits m i k) {head : List ℕ} (is-he
           unfolding goneAhead
           second-at again =
               refused-at
-              (ask-yes _ 15 _ _ (waiting-test ∙ held)
-              ∙ ask-yes _ 16 _ _ (sym faulty-test ∙ faults)
-              ∙ ask-no _ 17 _ _ (ap not (sym came-test ∙ again)))
+              (asked-yes 15 _ _ _ (waiting-test ∙ held)
+              ∙ asked-yes 16 _ _ _ (sym faulty-test ∙ faults)
+              ∙ asked-no 17 _ _ _ (ap not (sym came-test ∙ again)))
 
           pub gone-ahead-at : came ≡ false → ActAt m i k goneAhead Done (set m (headAt i + 29) 1)
           unfolding goneAhead
           gone-ahead-at first =
               go-ahead-changed sits refl
-              (ask-yes _ 15 _ _ (waiting-test ∙ held)
-              ∙ ask-yes _ 16 _ _ (sym faulty-test ∙ faults)
-              ∙ ask-yes _ 17 _ _ (ap not (sym came-test ∙ first)))
+              (asked-yes 15 _ _ _ (waiting-test ∙ held)
+              ∙ asked-yes 16 _ _ _ (sym faulty-test ∙ faults)
+              ∙ asked-yes 17 _ _ _ (ap not (sym came-test ∙ first))
+              ∙ asked-none _ _)
 
       -- "No faults, or go-ahead given? 18. Paired when both needs are covered; Short changes nothing."
       module _ {may : Bool} (is-may : may ≡ (goAheadIn head || not (anyFaulty (rowsFrom m k n)))) where
@@ -88,7 +88,7 @@ module _ (m : List ℕ) (i k : ℕ) (sits : Sits m i k) {head : List ℕ} (is-he
 
         pub faults-at : may ≡ false → ActAt m i k paired (Refused 18) m
         unfolding paired
-        faults-at barred = refused-at (ask-yes _ 15 _ _ (waiting-test ∙ held) ∙ ask-no _ 18 _ _ (may-test ∙ barred))
+        faults-at barred = refused-at (asked-yes 15 _ _ _ (waiting-test ∙ held) ∙ asked-no 18 _ _ _ (may-test ∙ barred))
 
         module _ (free : may ≡ true) {missing-k amounts k-in : Amount} {missing-o fees o-in : Fee}
             (is-missing-k : missing-k ≡ amount (amounts .0 - k-in .0)) (is-missing-o : missing-o ≡ fee (fees .0 - o-in .0))
@@ -115,15 +115,17 @@ module _ (m : List ℕ) (i k : ℕ) (sits : Sits m i k) {head : List ℕ} (is-he
           unfolding paired
           short-at some =
               left-at
-              (ask-yes _ 15 _ _ (waiting-test ∙ held)
-              ∙ ask-yes _ 18 _ _ (may-test ∙ free)
-              ∙ choose-second _ _ _ (covered-test ∙ ap not some)
+              (asked-yes 15 _ _ _ (waiting-test ∙ held)
+              ∙ asked-yes 18 _ _ _ (may-test ∙ free)
+              ∙ asked-none _ _
+              ∙ second-chosen _ _ _ (covered-test ∙ ap not some)
               ∙ (λ t. leave (Short (sym amount-is t) (sym fee-is t)) s))
 
           pub paired-at : short ≡ false → ActAt m i k paired IsPaired (set m (headAt i + 28) (stageByte Paired))
           unfolding paired
           paired-at none =
               stage-changed sits refl Paired
-              (ask-yes _ 15 _ _ (waiting-test ∙ held)
-              ∙ ask-yes _ 18 _ _ (may-test ∙ free)
-              ∙ choose-first _ _ _ (covered-test ∙ ap not none))
+              (asked-yes 15 _ _ _ (waiting-test ∙ held)
+              ∙ asked-yes 18 _ _ _ (may-test ∙ free)
+              ∙ asked-none _ _
+              ∙ first-chosen _ _ _ (covered-test ∙ ap not none))

@@ -15,6 +15,7 @@ use Rattle.money.specs.declared.Money.{Money}
 use Rattle.money.specs.declared.Money.the-variants.{K, O}
 use Rattle.money.specs.declared.Sum.{Sum}
 use Rattle.money.proofs.Sums.{grosze-is}
+use Rattle.epe.proofs.QuestionLaws.{asked-no, asked-yes, asked-none}
 use Rattle.model.specs.Shipment.{byMoney, Shipment, isPaired, onlyIf, sumOver, worth, need}
 use Rattle.model.specs.Calls.{Refused, Returned, leave, withRows, waitsOn, afterReturn, waiting, waitingOrders, isZprWithO, returnedBy}
 use Rattle.model.specs.Sound.{rowSound, rowsSound}
@@ -35,7 +36,7 @@ use Rattle.book.specs.declared.route.Waits.{Waits}
 use Rattle.book.proofs.Storing.{none-stored, one-more-stored}
 use Rattle.book.proofs.RowLaws.{rows-mapped}
 use Rattle.memory.proofs.HeadFields.{orders-are, fee-is, paired-is}
-use Rattle.book.proofs.Acting.{ask-yes, ask-no, refused-at, rows-changed}
+use Rattle.book.proofs.Acting.{refused-at, rows-changed}
 
 -- a wait is at most 2, and counts as often as it adds to the byte of state
 pub twice-at-most : (n times : ℕ) → times ≤ 2 → n * times ≤ 2 * n
@@ -208,13 +209,13 @@ module _ (m : List ℕ) (i k : ℕ) {head : List ℕ} (is-head : head ≡ headBy
 
     pub unpaired-at : paired ≡ false → ActAt m i k (returnedBy route money) (Refused 19) m
     unfolding returnedBy
-    unpaired-at unpaired = refused-at (ask-no _ 19 _ _ (paired-test ∙ unpaired))
+    unpaired-at unpaired = refused-at (asked-no 19 _ _ _ (paired-test ∙ unpaired))
 
     -- "Not ZPR with O? 22"
     module _ (held : paired ≡ true) {barred : Bool} (is-barred : barred ≡ isZprWithO route money) where
       pub undelivered-fee-at : barred ≡ true → ActAt m i k (returnedBy route money) (Refused 22) m
       unfolding returnedBy
-      undelivered-fee-at fee = refused-at (ask-yes _ 19 _ _ (paired-test ∙ held) ∙ ask-no _ 22 _ _ (ap not (sym is-barred ∙ fee)))
+      undelivered-fee-at fee = refused-at (asked-yes 19 _ _ _ (paired-test ∙ held) ∙ asked-no 22 _ _ _ (ap not (sym is-barred ∙ fee)))
 
       -- "Anything above zero to return? 23"
       module _ (free : barred ≡ false) where
@@ -222,9 +223,9 @@ module _ (m : List ℕ) (i k : ℕ) {head : List ℕ} (is-head : head ≡ headBy
         unfolding returnedBy
         nothing-to-return nothing =
             refused-at
-            (ask-yes _ 19 _ _ (paired-test ∙ held)
-            ∙ ask-yes _ 22 _ _ (ap not (sym is-barred ∙ free))
-            ∙ ask-no _ 23 _ _ (ap (ltb 0) nothing))
+            (asked-yes 19 _ _ _ (paired-test ∙ held)
+            ∙ asked-yes 22 _ _ _ (ap not (sym is-barred ∙ free))
+            ∙ asked-no 23 _ _ _ (ap (ltb 0) nothing))
 
         module _ {fee : ℕ} (is-fee : fee ≡ numberAt 4 head 24) {worth-nothing : Bool} (is-worth : worth-nothing ≡ byMoney money false (eqb fee 0)) where
           fee-there : fee ≡ s .fee
@@ -266,7 +267,8 @@ module _ (m : List ℕ) (i k : ℕ) {head : List ℕ} (is-head : head ≡ headBy
             returned-at some =
                 let all : RowsReturned route money k (ordersAt m i) m _ = rw (count-is is-count) at (cleared .returned) in
                 rows-changed refl (all .only i) (all .heads i (sits .few)) (rows-mapped m _ (afterReturn route money) k (ordersAt m i) (all .rows))
-                (ask-yes _ 19 _ _ (paired-test ∙ held)
-                ∙ ask-yes _ 22 _ _ (ap not (sym is-barred ∙ free))
-                ∙ ask-yes _ 23 _ _ (ap (ltb 0) sum-is ∙ lt-ltb 0 (groszeIn (found .sum)) some)
+                (asked-yes 19 _ _ _ (paired-test ∙ held)
+                ∙ asked-yes 22 _ _ _ (ap not (sym is-barred ∙ free))
+                ∙ asked-yes 23 _ _ _ (ap (ltb 0) sum-is ∙ lt-ltb 0 (groszeIn (found .sum)) some)
+                ∙ asked-none _ _
                 ∙ ap (λ answer. leave answer (withRows (map (afterReturn route money) (s .rows)) s)) (λ t. Returned (sum-is t) (orders-waiting-are t)))

@@ -1,6 +1,6 @@
 -- Each call by an identifier acts on the first shipment of that identifier, and a transfer on the first of its title's name.
 -- Assumes nothing.
-use mathlib.Core.Path.{_≡_, refl}
+use mathlib.Core.Path.{_≡_, refl, _∙_}
 use mathlib.Core.Bool.{true, false, true≢false, false≢true}
 use mathlib.Core.List.{List, [], _∷_}
 use Prim.Native.Nat.{ℕ}
@@ -12,9 +12,10 @@ use Rattle.epe.specs.Name.{titleQuestions, titleOf}
 use Rattle.epe.specs.declared.ident.Ident.{Ident}
 use Rattle.epe.specs.declared.verdict.Verdict.{Verdict}
 use Rattle.epe.specs.declared.verdict.Verdict.the-variants.{Passed, Refused as No}
+use Rattle.epe.proofs.QuestionLaws.{asked-no, asked-yes, asked-none, asked-refused, asked-passed}
 use Rattle.model.specs.Shipment.{Shipment}
 use Rattle.model.specs.Calls.{Act, Transfer, On, Refused, transferred, acted}
-use Rattle.model.specs.Book.{Book, stay, isCalled, sameName, inquire, unlessRefused, transferredIn, step}
+use Rattle.model.specs.Book.{Book, stay, isCalled, sameName, transferredIn, step}
 use Rattle.memory.specs.Heads.{shipmentIn}
 use Rattle.book.specs.Place.{calledIn, namedIn, Seeks}
 
@@ -39,19 +40,21 @@ refused-eleven title h = one-refused _ h
 -- "Title is a shipment name in the form above, then `-K` or `-O`? 11. Amount 1 to 9,999,999,999,999? 12."
 module _ (title : List ℕ) (amount : ℕ) where
   pub title-refused : isPassed (titleOf title .verdict) ≡ false → (book : Book) → step book (Transfer title amount) ≡ stay (Refused 11) book
-  unfolding step transferredIn unlessRefused titleOf
-  title-refused untitled book = rw (refused-eleven title untitled)
+  unfolding step transferredIn titleOf
+  title-refused untitled book = asked-refused _ _ _ (titleQuestions title) (refused-eleven title untitled)
 
   pub amount-refused : isPassed (titleOf title .verdict) ≡ true → isTransfer amount ≡ false → (book : Book) → step book (Transfer title amount) ≡ stay (Refused 12) book
-  unfolding step transferredIn unlessRefused inquire
-  amount-refused titled outside book = rw (passed-is (titleOf title .verdict) titled, outside)
+  unfolding step transferredIn titleOf
+  amount-refused titled outside book =
+      asked-passed _ _ _ (titleQuestions title) (passed-is (firstNo (titleQuestions title)) titled) ∙ asked-no 12 _ _ _ outside
 
   pub seeks-named : isPassed (titleOf title .verdict) ≡ true → isTransfer amount ≡ true
       → Seeks (namedIn (titleOf title .name)) (transferred (titleOf title .money) amount) (Transfer title amount)
-  unfolding step transferredIn unlessRefused inquire shipmentIn
+  unfolding step transferredIn titleOf shipmentIn
   seeks-named titled within = record {
     called = λ (s : Shipment). sameName (titleOf title .name) (s .name);
     by-head = λ head rows. refl;
-    steps = λ book. rw (passed-is (titleOf title .verdict) titled, within);
+    steps = λ book.
+        asked-passed _ _ _ (titleQuestions title) (passed-is (firstNo (titleQuestions title)) titled) ∙ asked-yes 12 _ _ _ within ∙ asked-none _ _;
     unread = refl;
   }

@@ -9,6 +9,7 @@ use borrow.Author.Tests.{leb-true}
 use lib.ListN.{getD, set}
 use Rattle.money.specs.Money.{sumCap, isSum}
 use Rattle.money.specs.declared.Money.{Money}
+use Rattle.epe.proofs.QuestionLaws.{asked-no, asked-yes, asked-none}
 use Rattle.model.specs.Shipment.{Shipment, accepted, isWaiting}
 use Rattle.model.specs.Calls.{Refused, Done, transferred, closed}
 use Rattle.model.specs.declared.Stage.the-variants.{Closed}
@@ -18,7 +19,7 @@ use Rattle.memory.specs.Heads.{stageOf, stageByte, acceptedAt}
 use Rattle.memory.specs.Read.{shipmentAt, Sits}
 use Rattle.book.specs.Place.{ActAt}
 use Rattle.memory.proofs.HeadFields.{waiting-is, accepted-is}
-use Rattle.book.proofs.Acting.{ask-yes, ask-no, refused-at}
+use Rattle.book.proofs.Acting.{refused-at}
 use Rattle.book.proofs.HeadActs.{stage-changed, accepted-changed}
 
 module _ (m : List ℕ) (i k : ℕ) (sits : Sits m i k) {head : List ℕ} (is-head : head ≡ headBytes m i) where
@@ -35,14 +36,14 @@ module _ (m : List ℕ) (i k : ℕ) (sits : Sits m i k) {head : List ℕ} (is-he
 
     pub too-much-at : isSum (before + amount) ≡ false → ActAt m i k (transferred money amount) (Refused 14) m
     unfolding transferred
-    too-much-at over = refused-at (ask-no _ 14 _ _ (total-is ∙ over))
+    too-much-at over = refused-at (asked-no 14 _ _ _ (total-is ∙ over))
 
     pub transferred-at : isSum (before + amount) ≡ true
         → ActAt m i k (transferred money amount) Done (withNumber 8 m (headAt i + acceptedAt money) (before + amount))
     unfolding transferred
     transferred-at within =
         let low = leb-true (before + amount) sumCap within in
-        rw before-is (accepted-changed sits refl money amount (omega (arith, before-is)) (ask-yes _ 14 _ _ (total-is ∙ within)))
+        rw before-is (accepted-changed sits refl money amount (omega (arith, before-is)) (asked-yes 14 _ _ _ (total-is ∙ within) ∙ asked-none _ _))
 
   -- "Waiting? 15"
   module _ {waiting : Bool} (is-waiting : waiting ≡ isWaiting (stageOf (getD head 28 0))) where
@@ -51,8 +52,8 @@ module _ (m : List ℕ) (i k : ℕ) (sits : Sits m i k) {head : List ℕ} (is-he
 
     pub not-closed-at : waiting ≡ false → ActAt m i k closed (Refused 15) m
     unfolding closed
-    not-closed-at other = refused-at (ask-no _ 15 _ _ (waiting-test ∙ other))
+    not-closed-at other = refused-at (asked-no 15 _ _ _ (waiting-test ∙ other))
 
     pub closed-at : waiting ≡ true → ActAt m i k closed Done (set m (headAt i + 28) (stageByte Closed))
     unfolding closed
-    closed-at held = stage-changed sits refl Closed (ask-yes _ 15 _ _ (waiting-test ∙ held))
+    closed-at held = stage-changed sits refl Closed (asked-yes 15 _ _ _ (waiting-test ∙ held) ∙ asked-none _ _)

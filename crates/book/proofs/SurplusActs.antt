@@ -10,6 +10,7 @@ use lib.Dec.{ltb}
 use lib.ListN.{getD}
 use Rattle.money.specs.declared.Money.{Money}
 use Rattle.money.specs.Money.{WithinSum}
+use Rattle.epe.proofs.QuestionLaws.{asked-no, asked-yes, asked-none}
 use Rattle.model.specs.Shipment.{Shipment, accepted, returned, isWaiting, isPaired, onlyIf, need, needOncePaired, free}
 use Rattle.model.specs.Calls.{Refused, Returned, surplusReturned}
 use Rattle.model.proofs.SoundParts.{in-order}
@@ -19,7 +20,7 @@ use Rattle.memory.specs.Heads.{stageOf, acceptedAt, returnedAt}
 use Rattle.memory.specs.Read.{shipmentAt, Sits}
 use Rattle.book.specs.Place.{ActAt}
 use Rattle.memory.proofs.HeadFields.{waiting-is, paired-is, accepted-is, returned-is}
-use Rattle.book.proofs.Acting.{ask-yes, ask-no, refused-at}
+use Rattle.book.proofs.Acting.{refused-at}
 use Rattle.book.proofs.HeadActs.{returned-changed}
 
 module _ (m : List ℕ) (i k : ℕ) (sits : Sits m i k) {head : List ℕ} (is-head : head ≡ headBytes m i) where
@@ -63,13 +64,13 @@ module _ (m : List ℕ) (i k : ℕ) (sits : Sits m i k) {head : List ℕ} (is-he
 
     pub still-waiting-at : waiting ≡ true → ActAt m i k (surplusReturned money) (Refused 24) m
     unfolding surplusReturned
-    still-waiting-at held = refused-at (ask-no _ 24 _ _ (ap not (waiting-test ∙ held)))
+    still-waiting-at held = refused-at (asked-no 24 _ _ _ (ap not (waiting-test ∙ held)))
 
     module _ (other : waiting ≡ false) {surplus : ℕ} (is-surplus : surplus ≡ free money s) where
       pub no-surplus-at : surplus ≡ 0 → ActAt m i k (surplusReturned money) (Refused 23) m
       unfolding surplusReturned
       no-surplus-at nothing =
-          refused-at (ask-yes _ 24 _ _ (ap not (waiting-test ∙ other)) ∙ ask-no _ 23 _ _ (ap (ltb 0) (sym is-surplus ∙ nothing)))
+          refused-at (asked-yes 24 _ _ _ (ap not (waiting-test ∙ other)) ∙ asked-no 23 _ _ _ (ap (ltb 0) (sym is-surplus ∙ nothing)))
 
       module _ {gone : ℕ} (is-gone : gone ≡ numberAt 8 head (returnedAt money)) where
         before-is : gone ≡ returned money s
@@ -86,4 +87,4 @@ module _ (m : List ℕ) (i k : ℕ) (sits : Sits m i k) {head : List ℕ} (is-he
         surplus-at some =
             rw (before-is, is-surplus)
             (returned-changed sits refl money (free money s) (omega (arith, fits-at, before-is, is-surplus))
-            (ask-yes _ 24 _ _ (ap not (waiting-test ∙ other)) ∙ ask-yes _ 23 _ _ (lt-ltb 0 (free money s) (omega (arith, is-surplus)))))
+            (asked-yes 24 _ _ _ (ap not (waiting-test ∙ other)) ∙ asked-yes 23 _ _ _ (lt-ltb 0 (free money s) (omega (arith, is-surplus))) ∙ asked-none _ _))

@@ -3,16 +3,15 @@ use mathlib.Core.Path.{_≡_}
 use mathlib.Core.Bool.{true}
 use mathlib.Core.List.{List, [], _∷_, _++_}
 use Prim.Native.Nat.{ℕ, _+_, _-_, _≤_, _<_, _^_}
-use lib.Dec.{leb, ltb}
 use lib.ListN.{length, getD}
+use Rattle.epe.specs.Questions.{Question, asked}
 use Rattle.epe.specs.Name.{nameInForm}
 use Rattle.epe.specs.Accepted.{EachInRange}
 use Rattle.epe.specs.Kept.{orderIn, ordersIn}
 use Rattle.epe.specs.declared.name.Name.{Name}
-use Rattle.epe.specs.declared.verdict.Verdict.{Verdict}
 use Rattle.model.specs.Shipment.{Shipment}
 use Rattle.model.specs.Calls.{Call, Answer, Accepted}
-use Rattle.model.specs.Book.{Book, Step, stay, inquire, unlessRefused, rowsIn, enteredRow, step}
+use Rattle.model.specs.Book.{Book, Step, stay, refusingIn, rowsIn, enteredRow, roomQuestions, step}
 use Rattle.model.specs.declared.Row.{Row}
 use Rattle.memory.specs.Layout.{size}
 use Rattle.memory.specs.Read.{shipmentsIn, flagsFrom, bookIn, soundIn}
@@ -40,12 +39,9 @@ pub record ShipmentEntered (s : Shipment) (m m′ : List ℕ) : Type 0 where
   pub behind : (j : ℕ) → size ≤ j → getD m′ j 0 ≡ getD m j 0
   pub as-long : length m′ ≡ length m
 
--- "Fewer than 32 shipments in the book? 903. Its orders fit with those present in 2,048 rows? 904", and then it is entered, with n orders.
-abbrev pub enteredIn : Shipment → ℕ → ℕ → Book → Step
-enteredIn s n faulty book =
-    inquire (ltb (length book) 32) 903 book
-    (inquire (leb (rowsIn book + n) 2048) 904 book
-    (stay (Accepted n faulty) (book ++ (s ∷ []))))
+-- Questions that are left, the room for n orders, and then the shipment is entered.
+abbrev pub enteredIn : List Question → Shipment → ℕ → ℕ → Book → Step
+enteredIn left s n faulty book = asked (left ++ roomQuestions n book) (refusingIn book) (stay (Accepted n faulty) (book ++ (s ∷ [])))
 
 -- A file for a book of i shipments: the book is sound, and the name and the fee are in form.
 pub record Opened (m : List ℕ) (i : ℕ) (name : Name) (fee : ℕ) : Type 0 where
@@ -58,7 +54,6 @@ pub record Opened (m : List ℕ) (i : ℕ) (name : Name) (fee : ℕ) : Type 0 wh
 pub record Counted (n : ℕ) (kept : List ℕ) : Type 0 where
   pub in-range : n ≤ 2_048 → EachInRange (ordersIn kept 0 n)
 
--- What an intake promises that has come so far: its contents decide, then the room.
-pub record DoesEnter (verdict : Verdict) (s : Shipment) (n faulty : ℕ) (before : List ℕ) (answer : Answer) (after : List ℕ) : Type 0 where
-  pub by-call : (call : Call) → step (bookIn before) call ≡ unlessRefused verdict (bookIn before) (enteredIn s n faulty (bookIn before))
-      → Does before call answer after
+-- What an intake promises of which only these questions and the room are left.
+pub record DoesEnter (left : List Question) (s : Shipment) (n faulty : ℕ) (before : List ℕ) (answer : Answer) (after : List ℕ) : Type 0 where
+  pub by-call : (call : Call) → step (bookIn before) call ≡ enteredIn left s n faulty (bookIn before) → Does before call answer after

@@ -22,12 +22,12 @@ use memory::store_shipments;
 use money::Fee;
 ghost use mathlib.Core.Path.{_≡_};
 ghost use mathlib.Core.Bool.{true};
-ghost use mathlib.Core.List.{map};
+ghost use mathlib.Core.List.{[], map};
 ghost use Prim.Native.Nat.{_+_, _≤_, _<_, _^_};
 ghost use lib.ListN.{length};
 ghost use Rattle.epe.specs.Name.{nameInForm};
 ghost use Rattle.epe.specs.Profile.{profileFits};
-ghost use Rattle.epe.specs.Contents.{contents, orders, faultyCount};
+ghost use Rattle.epe.specs.Contents.{contentsQuestions, orders, faultyCount};
 ghost use Rattle.epe.specs.Steps.{statedOf};
 ghost use Rattle.epe.specs.Accepted.{EachInRange};
 ghost use Rattle.epe.specs.Kept.{ordersIn};
@@ -100,7 +100,7 @@ fn enter_behind(
     kept: &[u64],
 ) -> Acceptance
     requires { ⌜ Opened (now memory) i name (fee .0) × Counted n (now kept) ⌝ }
-    ensures { λ r. ⌜ DoesEnter Passed (newShipment name (fee .0) (map enteredRow (ordersIn (now (kept .entry)) 0 n))) n faulty (now (memory .entry)) (acceptanceOf r) (now (memory .exit)) ⌝ }
+    ensures { λ r. ⌜ DoesEnter [] (newShipment name (fee .0) (map enteredRow (ordersIn (now (kept .entry)) 0 n))) n faulty (now (memory .entry)) (acceptanceOf r) (now (memory .exit)) ⌝ }
 {
     if 32 <= i {
         return Acceptance::Refused(refusals::SHIPMENTS);
@@ -132,7 +132,7 @@ fn take_records(
     file: &[u8],
 ) -> Acceptance
     requires { ⌜ (profileFits profile ≡ true) × (soundIn (now memory) ≡ true) × (i ≡ shipmentsIn (now memory)) × (nameInForm name ≡ true) × (stated ≡ statedOf profile (now file)) × (stated .verdict ≡ Passed) ⌝ }
-    ensures { λ r. ⌜ DoesEnter (contents profile (now (file .entry))) (entered profile name (orders (now (file .entry)))) (length (orders (now (file .entry)))) (faultyCount (orders (now (file .entry)))) (now (memory .entry)) (acceptanceOf r) (now (memory .exit)) ⌝ }
+    ensures { λ r. ⌜ DoesEnter (contentsQuestions profile (now (file .entry))) (entered profile name (orders (now (file .entry)))) (length (orders (now (file .entry)))) (faultyCount (orders (now (file .entry)))) (now (memory .entry)) (acceptanceOf r) (now (memory .exit)) ⌝ }
 {
     let fee = fee_of(profile, name.kind);
     let mut kept = [0u64; 2_048];
@@ -145,7 +145,7 @@ fn take_records(
 // Judges the contents of a file, and enters it behind the i shipments that there are.
 fn take_in(memory: &mut [u8], i: usize, profile: Profile, name: Name, file: &[u8]) -> Acceptance
     requires { ⌜ (profileFits profile ≡ true) × (soundIn (now memory) ≡ true) × (i ≡ shipmentsIn (now memory)) × (nameInForm name ≡ true) ⌝ }
-    ensures { λ r. ⌜ DoesEnter (contents profile (now (file .entry))) (entered profile name (orders (now (file .entry)))) (length (orders (now (file .entry)))) (faultyCount (orders (now (file .entry)))) (now (memory .entry)) (acceptanceOf r) (now (memory .exit)) ⌝ }
+    ensures { λ r. ⌜ DoesEnter (contentsQuestions profile (now (file .entry))) (entered profile name (orders (now (file .entry)))) (length (orders (now (file .entry)))) (faultyCount (orders (now (file .entry)))) (now (memory .entry)) (acceptanceOf r) (now (memory .exit)) ⌝ }
 {
     let stated = judge_stated(profile, file);
     let verdict = stated.verdict;

@@ -3,6 +3,7 @@
 --     asked-no, asked-yes        what comes of the first question, whatever is asked and whatever comes of it
 --     asked-none, asked-append   no question, and questions behind others
 --     asked-either               what holds of every refusal, and of what comes next where all are answered yes, holds of what is asked
+--     asked-refused, asked-passed  what comes of questions whose verdict is known, with others behind them
 --     none-asked, next           the verdict of a function that asks its questions in order, a `next` for each
 -- Assumes nothing.
 use mathlib.Core.Path.{_≡_, refl, sym, _∙_, ap}
@@ -63,6 +64,26 @@ pub all-yes-passed : (qs : List Question) → AllYes qs → firstNo qs ≡ Passe
 unfolding asked
 all-yes-passed [] h = refl
 all-yes-passed (q ∷ qs) h = rw (h .0) (all-yes-passed qs (h .1))
+
+-- what comes of questions whose verdict is known, with others behind them
+module _ {ℓ} {A : Type ℓ} (rest : List Question) (refused : ℕ → A) (next : A) where
+  pub asked-refused : (qs : List Question) {n : ℕ} → firstNo qs ≡ Refused n → asked (qs ++ rest) refused next ≡ refused n
+  unfolding asked
+  asked-refused [] verdict = absurd (never (sym verdict))
+  asked-refused (q ∷ qs) {n} verdict = go (q .yes?) (asked-refused qs) verdict
+    where
+      go : (t : Bool) → (firstNo qs ≡ Refused n → asked (qs ++ rest) refused next ≡ refused n) → cond t (firstNo qs) (Refused (q .number)) ≡ Refused n
+          → cond t (asked (qs ++ rest) refused next) (refused (q .number)) ≡ refused n
+      go true later e = later e
+      go false later e = cc
+
+  asked-all : (qs : List Question) → AllYes qs → asked (qs ++ rest) refused next ≡ asked rest refused next
+  unfolding asked
+  asked-all [] h = refl
+  asked-all (q ∷ qs) h = rw (h .0) (asked-all qs (h .1))
+
+  pub asked-passed : (qs : List Question) → firstNo qs ≡ Passed → asked (qs ++ rest) refused next ≡ asked rest refused next
+  asked-passed qs verdict = asked-all qs (all-yes qs verdict)
 
 -- the parts of a list of which all are answered yes
 pub yes-before : (ps qs : List Question) → AllYes (ps ++ qs) → AllYes ps

@@ -8,17 +8,20 @@ use Prim.Native.Nat.{ℕ, _+_, _-_, _*_, _≤_, _<_}
 use native.Mathlib.Omega.{arith}
 use native.Mathlib.Nat.{zero-mul, suc-mul}
 use lib.ListN.{length, set, length-set, length-map}
+use Rattle.text.proofs.Branches.{cond-either}
 use Rattle.money.specs.declared.Amount.{Amount}
 use Rattle.money.specs.declared.Money.{Money}
 use Rattle.money.specs.declared.Money.the-variants.{K, O}
+use Rattle.epe.specs.Questions.{Question, AllYes, asked}
 use Rattle.epe.specs.Name.{titleOf}
 use Rattle.epe.specs.declared.ident.Ident.{Ident}
+use Rattle.epe.proofs.QuestionLaws.{asked-either}
 use Rattle.model.specs.Shipment.{byMoney, Shipment, accepted, returned, isWaiting, isPaired, onlyIf, sumOver, waits, worth, need}
 use Rattle.model.specs.Shipment.{needOncePaired, free, holds, held}
 use Rattle.model.specs.Calls.{Act, GoAhead, Pair, Close, OnOrder, Return, Call, Transfer, On}
-use Rattle.model.specs.Calls.{Answer, Done, IsPaired, Short, Returned, isRefusal, Outcome, leave, ask}
+use Rattle.model.specs.Calls.{Answer, Done, IsPaired, Short, Returned, isRefusal, Outcome, leave, refusing}
 use Rattle.model.specs.Calls.{withStage, withGoAhead, withAccepted, withReturned, withRows, withState}
-use Rattle.model.specs.Calls.{transferred, goneAhead, paired, closed, fits, becomes, says, noOrder, orderAt, onOrder}
+use Rattle.model.specs.Calls.{transferred, goneAhead, needsCovered, paired, closed, fits, becomes, says, noOrder, orderAt, onOrder}
 use Rattle.model.specs.Calls.{takes, waitsOn, cleared, afterReturn, waiting, returnedBy, surplusReturned, acted}
 use Rattle.model.specs.Sound.{beforePairing, rowSound, rowsSound}
 use Rattle.model.specs.Demand.{isMoney, acceptedBy, leftBy}
@@ -31,7 +34,7 @@ use Rattle.model.specs.declared.Stage.{Stage}
 use Rattle.model.specs.declared.Stage.the-variants.{Paired, Closed}
 use Rattle.model.specs.declared.State.{State}
 use Rattle.model.specs.declared.State.the-variants.{Open, Posted, Paid, Faulty, Undelivered, Withdrawn}
-use Rattle.model.proofs.Asking.{not-both, ask-either, choose-either}
+use Rattle.model.proofs.Asking.{not-both}
 use Rattle.model.proofs.Sums.{sum-set, sum-moved, sum-map}
 use Rattle.model.proofs.Shipments.{only-if-true, only-if-false, waiting-unpaired, amountOf, same-need, same-need-once, both-covered}
 use Rattle.model.proofs.Shipments.{stateFor, fitting-state, in-range}
@@ -97,9 +100,11 @@ pub record Fair (call : Call) (s : Shipment) (outcome : Outcome) : Type 0 where
       ≡ held money (outcome .shipment) + free money (outcome .shipment) + leftBy money call (outcome .answer)
   pub grows : (money : Money) → accepted money s + acceptedBy money call (outcome .answer) ≡ accepted money (outcome .shipment)
 
--- a question: its "no" is fair, so only its "yes" is left to show
-asked : (call : Call) (s : Shipment) (t : Bool) (number : ℕ) (next : Outcome) → (t ≡ true → Fair call s next) → Fair call s (ask t number s next)
-asked call s t number next = ask-either (Fair call s) t number s next (λ n. record { name = refl; refused = λ e. refl; conserves = λ money. refl; grows = λ money. omega arith })
+-- a refusal is fair, so only what is done where all questions are answered yes is left to show
+fairly : (call : Call) (s : Shipment) (qs : List Question) (next : Outcome) → (AllYes qs → Fair call s next) → Fair call s (asked qs (refusing s) next)
+fairly call s qs next =
+    asked-either (Fair call s) qs (refusing s) next
+    (λ n. record { name = refl; refused = λ e. refl; conserves = λ money. refl; grows = λ money. omega arith })
 
 -- a transfer, into either money, moves that money's free money only
 module _ (s : Shipment) (b : Balanced s) (n : ℕ) where
@@ -128,7 +133,7 @@ module _ (s : Shipment) (b : Balanced s) (n : ℕ) where
 
   pub transferred-fair : (title : List ℕ) → Fair (Transfer title n) s (transferred (titleOf title .money) n s)
   unfolding transferred
-  transferred-fair title = asked _ s _ 14 _ (λ e. transfer-fair title)
+  transferred-fair title = fairly _ s _ _ (λ yes. transfer-fair title)
 
 module _ (ident : Ident) (s : Shipment) (b : Balanced s) where
   go-ahead-fair : Fair (On ident GoAhead) s (leave Done (withGoAhead s))
@@ -145,7 +150,7 @@ module _ (ident : Ident) (s : Shipment) (b : Balanced s) where
 
   gone-ahead-fair : Fair (On ident GoAhead) s (goneAhead s)
   unfolding goneAhead
-  gone-ahead-fair = asked _ s _ 15 _ (λ e. asked _ s _ 16 _ (λ e. asked _ s _ 17 _ (λ e. go-ahead-fair)))
+  gone-ahead-fair = fairly _ s _ _ (λ yes. go-ahead-fair)
 
   -- before pairing nothing is held or needed
   module _ (waits : isWaiting (s .stage) ≡ true) where
@@ -195,11 +200,13 @@ module _ (ident : Ident) (s : Shipment) (b : Balanced s) where
 
   closed-fair : Fair (On ident Close) s (closed s)
   unfolding closed
-  closed-fair = asked _ s _ 15 _ close-fair
+  closed-fair = fairly _ s _ _ (λ yes. close-fair (yes .0))
 
   paired-fair : Fair (On ident Pair) s (paired s)
   unfolding paired
-  paired-fair = asked _ s _ 15 _ (λ w. asked _ s _ 18 _ (λ e. choose-either (Fair (On ident Pair) s) _ _ _ (λ c. pair-fair w (both-covered s c)) (short-fair _ _)))
+  paired-fair =
+      fairly _ s _ _
+      (λ yes. cond-either (Fair (On ident Pair) s) (needsCovered s) _ _ (λ covered. pair-fair (yes .0) (both-covered s covered)) (λ short. short-fair _ _))
 
 -- new orders in a Paired shipment: what they hold falls by what left, and the need stays
 module _ (call : Call) (s : Shipment) (b : Balanced s) (is-paired : isPaired (s .stage) ≡ true) (rows : List Row) (answer : Answer) where
@@ -288,7 +295,7 @@ module _ (ident : Ident) (deed : Deed) (number : ℕ) (s : Shipment) (b : Balanc
 
   on-order-fair : Fair (On ident (OnOrder deed number)) s (onOrder deed number s)
   unfolding onOrder
-  on-order-fair = asked _ s _ 19 _ (λ p. asked _ s _ 20 _ (λ r. asked _ s _ 21 _ (λ f. deed-fair p (in-range _ number r) f)))
+  on-order-fair = fairly _ s _ _ (λ yes. deed-fair (yes .0) (in-range _ number (yes .1 .0)) (yes .1 .1 .0))
 
 -- what waits on a route goes back: an order holds less just what it waited with, nothing less of the other money, and keeps its amount
 abbrev rowOf : Amount → State → Row
@@ -377,7 +384,7 @@ module _ (ident : Ident) (route : Route) (money : Money) (s : Shipment) (b : Bal
 
   returned-by-fair : Fair (On ident (Return route money)) s (returnedBy route money s)
   unfolding returnedBy
-  returned-by-fair = asked _ s _ 19 _ (λ p. asked _ s _ 22 _ (λ e. asked _ s _ 23 _ (λ e. return-fair _ p)))
+  returned-by-fair = fairly _ s _ _ (λ yes. return-fair _ (yes .0))
 
 -- the surplus goes back: the free money falls by it
 module _ (ident : Ident) (s : Shipment) (b : Balanced s) where
@@ -401,7 +408,7 @@ module _ (ident : Ident) (s : Shipment) (b : Balanced s) where
 
   surplus-returned-fair : (money : Money) → Fair (On ident (Return Zwr money)) s (surplusReturned money s)
   unfolding surplusReturned
-  surplus-returned-fair money = asked _ s _ 24 _ (λ e. asked _ s _ 23 _ (λ e. surplus-fair money))
+  surplus-returned-fair money = fairly _ s _ _ (λ yes. surplus-fair money)
 
   -- Every act of a call that names a shipment.
   pub acted-fair : (act : Act) → Fair (On ident act) s (acted act s)

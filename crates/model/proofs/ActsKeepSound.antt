@@ -11,13 +11,15 @@ use lib.ListN.{length, set, length-set, length-map}
 use Rattle.text.specs.Bytes.{between}
 use Rattle.text.proofs.Branches.{cond-either}
 use Rattle.money.specs.Money.{sumCap}
+use Rattle.epe.specs.Questions.{Question, AllYes, asked}
+use Rattle.epe.proofs.QuestionLaws.{asked-either}
 use Rattle.money.specs.declared.Money.{Money}
 use Rattle.money.specs.declared.Money.the-variants.{K, O}
 use Rattle.model.specs.Shipment.{Shipment, accepted, returned, isWaiting, isPaired, onlyIf, sumOver, isFaulty, need, needOncePaired, free, anyFaulty}
 use Rattle.model.specs.Calls.{Act, GoAhead, Pair, Close, OnOrder, Return}
-use Rattle.model.specs.Calls.{Answer, Refused, Done, IsPaired, Outcome, leave, ask}
+use Rattle.model.specs.Calls.{Answer, Refused, Done, IsPaired, Outcome, leave, refusing}
 use Rattle.model.specs.Calls.{withStage, withGoAhead, withAccepted, withReturned, withRows, withState}
-use Rattle.model.specs.Calls.{transferred, goneAhead, paired, closed, fits, becomes, says, noOrder, orderAt, onOrder}
+use Rattle.model.specs.Calls.{transferred, goneAhead, needsCovered, paired, closed, fits, becomes, says, noOrder, orderAt, onOrder}
 use Rattle.model.specs.Calls.{waitsOn, cleared, afterReturn, returnedBy, surplusReturned, acted}
 use Rattle.model.specs.Sound.{faultInRange, rowSound, rowsSound}
 use Rattle.model.specs.declared.Deed.{Deed}
@@ -29,7 +31,7 @@ use Rattle.model.specs.declared.Stage.{Stage}
 use Rattle.model.specs.declared.Stage.the-variants.{Waiting, Paired, Closed}
 use Rattle.model.specs.declared.State.{State}
 use Rattle.model.specs.declared.State.the-variants.{Open, Posted, Paid, Faulty, Undelivered, Withdrawn}
-use Rattle.model.proofs.Asking.{not-both, ask-either, choose-either}
+use Rattle.model.proofs.Asking.{not-both}
 use Rattle.model.proofs.Sums.{sum-set, sum-map}
 use Rattle.model.proofs.Shipments.{waiting-unpaired, amountOf, same-need, both-covered, stateFor, fitting-state, in-range}
 use Rattle.model.proofs.SoundParts.{where-first, MoneyInOrder, InOrder}
@@ -44,9 +46,9 @@ pub record Kept (s : Shipment) (outcome : Outcome) : Type 0 where
 unchanged : (s : Shipment) (answer : Answer) → InOrder s → Kept s (leave answer s)
 unchanged s answer h = record { in-order = h; same-name = refl; as-many = refl }
 
--- a refusal is fine, so only the "yes" of a question is left to show
-asked : (s : Shipment) (t : Bool) (n : ℕ) (next : Outcome) → InOrder s → (t ≡ true → Kept s next) → Kept s (ask t n s next)
-asked s t n next h = ask-either (Kept s) t n s next (λ number. unchanged s (Refused number) h)
+-- a refusal is fine, so only what is done where all questions are answered yes is left to show
+kept : (s : Shipment) (qs : List Question) (next : Outcome) → InOrder s → (AllYes qs → Kept s next) → Kept s (asked qs (refusing s) next)
+kept s qs next h = asked-either (Kept s) qs (refusing s) next (λ number. unchanged s (Refused number) h)
 
 -- the states before and after a deed, and after a return
 fitting-unfaulty : (deed : Deed) (state : State) → fits deed state ≡ true → isFaulty state ≡ false
@@ -297,36 +299,35 @@ module _ (s : Shipment) (h : InOrder s) where
 -- each call on a shipment: its questions, then what was shown above
 pub transferred-kept : (money : Money) (n : ℕ) (s : Shipment) → InOrder s → Kept s (transferred money n s)
 unfolding transferred
-transferred-kept money n s h = asked s _ 14 _ h (transfer-kept s h money n)
+transferred-kept money n s h = kept s _ _ h (λ yes. transfer-kept s h money n (yes .0))
 
 gone-ahead-kept : (s : Shipment) → InOrder s → Kept s (goneAhead s)
 unfolding goneAhead
-gone-ahead-kept s h = asked s _ 15 _ h (λ waiting. asked s _ 16 _ h (λ faulty. asked s _ 17 _ h (λ first. go-ahead-kept s h faulty)))
+gone-ahead-kept s h = kept s _ _ h (λ yes. go-ahead-kept s h (yes .1 .0))
 
 paired-kept : (s : Shipment) → InOrder s → Kept s (paired s)
 unfolding paired
 paired-kept s h =
-    asked s _ 15 _ h
-    (λ waiting. asked s _ 18 _ h
-    (λ ready. choose-either (Kept s) _ _ _
-    (λ covered. stage-kept s h Paired waiting refl IsPaired (λ p. where-first (anyFaulty (s .rows)) (s .goAhead) ready) (both-covered s covered))
-    (unchanged s _ h)))
+    kept s _ _ h
+    (λ yes. cond-either (Kept s) (needsCovered s) _ _
+    (λ covered. stage-kept s h Paired (yes .0) refl IsPaired (λ p. where-first (anyFaulty (s .rows)) (s .goAhead) (yes .1 .0)) (both-covered s covered))
+    (λ short. unchanged s _ h))
 
 closed-kept : (s : Shipment) → InOrder s → Kept s (closed s)
 unfolding closed
-closed-kept s h = asked s _ 15 _ h (λ waiting. stage-kept s h Closed waiting refl Done (λ p. absurd (false≢true p)) (λ money. omega arith))
+closed-kept s h = kept s _ _ h (λ yes. stage-kept s h Closed (yes .0) refl Done (λ p. absurd (false≢true p)) (λ money. omega arith))
 
 on-order-kept : (deed : Deed) (number : ℕ) (s : Shipment) → InOrder s → Kept s (onOrder deed number s)
 unfolding onOrder
-on-order-kept deed number s h = asked s _ 19 _ h (λ p. asked s _ 20 _ h (λ within. asked s _ 21 _ h (λ fit. order-kept s h deed number p within fit)))
+on-order-kept deed number s h = kept s _ _ h (λ yes. order-kept s h deed number (yes .0) (yes .1 .0) (yes .1 .1 .0))
 
 returned-kept : (route : Route) (money : Money) (s : Shipment) → InOrder s → Kept s (returnedBy route money s)
 unfolding returnedBy
-returned-kept route money s h = asked s _ 19 _ h (λ p. asked s _ 22 _ h (λ routed. asked s _ 23 _ h (λ some. return-kept s h route money _ p)))
+returned-kept route money s h = kept s _ _ h (λ yes. return-kept s h route money _ (yes .0))
 
 surplus-returned-kept : (money : Money) (s : Shipment) → InOrder s → Kept s (surplusReturned money s)
 unfolding surplusReturned
-surplus-returned-kept money s h = asked s _ 24 _ h (λ over. asked s _ 23 _ h (λ some. surplus-kept s h money (not-true (isWaiting (s .stage)) over) _))
+surplus-returned-kept money s h = kept s _ _ h (λ yes. surplus-kept s h money (not-true (isWaiting (s .stage)) (yes .0)) _)
 
 pub acted-kept : (act : Act) (s : Shipment) → InOrder s → Kept s (acted act s)
 unfolding acted

@@ -3,7 +3,7 @@
 -- Assumes nothing.
 use mathlib.Core.Path.{_≡_, refl, ap, sym, _∙_}
 use mathlib.Core.Bool.{Bool, true, false, not, cond, _&&_, false≢true, and-not-self, and-true, and-false, or-true}
-use mathlib.Core.List.{map}
+use mathlib.Core.List.{List, map}
 use mathlib.Core.Option.{some}
 use Prim.Native.Nat.{ℕ, _+_, _-_, _<_, _≤_}
 use native.Mathlib.Omega.{arith}
@@ -12,14 +12,16 @@ use lib.Dec.{leb, eqb}
 use lib.ListN.{length, set, List·getD-map}
 use lib.Seq.{getD-set-same, getD-set-other}
 use Rattle.text.specs.Bytes.{between}
-use Rattle.text.proofs.Branches.{and-left, and-right, second-no, either-way}
+use Rattle.text.proofs.Branches.{and-left, and-right, second-no, cond-either, either-way}
 use Rattle.money.specs.declared.Money.{Money}
 use Rattle.money.specs.declared.Money.the-variants.{K, O}
+use Rattle.epe.specs.Questions.{Question, AllYes, asked}
 use Rattle.epe.specs.declared.ident.Ident.{Ident}
+use Rattle.epe.proofs.QuestionLaws.{asked-either}
 use Rattle.model.specs.Shipment.{byMoney, Shipment, onlyIf, sumOver, isOpen, isPosted, waits, worth, free, holds}
 use Rattle.model.specs.Calls.{Act, GoAhead, Pair, Close, OnOrder, Return, Call, On}
 use Rattle.model.specs.Calls.{Answer, Refused, Done, Accepted, IsPaired, Short, FeeEarned, AmountPaid, Returned, isRefusal}
-use Rattle.model.specs.Calls.{Outcome, leave, ask, withStage, withGoAhead, withReturned, withRows, withState, transferred, goneAhead, paired, closed}
+use Rattle.model.specs.Calls.{Outcome, leave, refusing, withStage, withGoAhead, withReturned, withRows, withState, transferred, goneAhead, needsCovered, missing, paired, closed}
 use Rattle.model.specs.Calls.{fits, becomes, says, noOrder, orderAt, onOrder}
 use Rattle.model.specs.Calls.{takes, waitsOn, cleared, afterReturn, waiting, waitingOrders, returnedBy, surplusReturned, acted}
 use Rattle.model.specs.Demand.{isMoney, leftBy, orderByIndex, isOfOrder, isReturnOf, waitEnds, leavesBy, below, surplusOf, surplusBy, countIs}
@@ -31,7 +33,6 @@ use Rattle.model.specs.declared.Row.{Row}
 use Rattle.model.specs.declared.Stage.the-variants.{Paired, Closed}
 use Rattle.model.specs.declared.State.{State}
 use Rattle.model.specs.declared.State.the-variants.{Open, Posted, Paid, Faulty, Undelivered, Withdrawn}
-use Rattle.model.proofs.Asking.{ask-either, choose-either}
 use Rattle.model.proofs.Sums.{below-none, below-same, below-one, sum-below, sum-none, sum-map}
 use Rattle.model.proofs.Shipments.{open-is, posted-is, in-range}
 
@@ -184,8 +185,9 @@ module _ (ident : Ident) (act : Act) (s : Shipment) where
   refusal : (number : ℕ) → Leaves (leave (Refused number) s)
   refusal number = quiet (leave (Refused number) s) refl refl (λ money j. refl) (λ money. refl)
 
-  asked : (t : Bool) (number : ℕ) (next : Outcome) → (t ≡ true → Leaves next) → Leaves (ask t number s next)
-  asked t number next accepted = ask-either Leaves t number s next refusal accepted
+  -- a refusal lets nothing leave, so only what is done where all questions are answered yes is left to show
+  leaving : (qs : List Question) (next : Outcome) → (AllYes qs → Leaves next) → Leaves (asked qs (refusing s) next)
+  leaving qs next accepted = asked-either Leaves qs (refusing s) next refusal accepted
 
 -- whether a deed takes a money out of its order
 abbrev takesOut : Deed → Money → Bool
@@ -294,9 +296,9 @@ module _ (ident : Ident) (route : Route) (money : Money) (s : Shipment) where
     pub counted : countIs (below (length (s .rows)) (λ j. onlyIf (leavesAt ident (Return route money) s money j o) 1)) (o .answer)
     pub emptied : isRefusal (o .answer) ≡ false → waiting route money (o .shipment) ≡ 0
 
-  asked-return : (t : Bool) (number : ℕ) (next : Outcome) → (t ≡ true → Empties next) → Empties (ask t number s next)
-  asked-return t number next accepted =
-      ask-either Empties t number s next (λ n. record { counted = tt; emptied = λ accepted. absurd (false≢true (sym accepted)) }) accepted
+  emptying : (qs : List Question) (next : Outcome) → (AllYes qs → Empties next) → Empties (asked qs (refusing s) next)
+  emptying qs next accepted =
+      asked-either Empties qs (refusing s) next (λ n. record { counted = tt; emptied = λ accepted. absurd (false≢true (sym accepted)) }) accepted
 
 -- what waits on a route goes back
 module _ (ident : Ident) (route : Route) (other : Money) (s : Shipment) where
@@ -348,15 +350,11 @@ module _ (ident : Ident) (route : Route) (other : Money) (s : Shipment) where
   returned-leaves : ((money : Money) (total : ℕ) → surplusOf money (On ident (Return route other)) total ≡ 0)
       → Leaves ident (Return route other) s (returnedBy route other s)
   unfolding returnedBy
-  returned-leaves surplus =
-      let act = Return route other in
-      asked ident act s _ 19 _ (λ paired. asked ident act s _ 22 _ (λ fitting. asked ident act s _ 23 _ (λ some. back-leaving surplus)))
+  returned-leaves surplus = leaving ident (Return route other) s _ _ (λ yes. back-leaving surplus)
 
   returned-empties : Empties ident route other s (returnedBy route other s)
   unfolding returnedBy
-  returned-empties =
-      asked-return ident route other s _ 19 _
-      (λ paired. asked-return ident route other s _ 22 _ (λ fitting. asked-return ident route other s _ 23 _ (λ some. back-empties)))
+  returned-empties = emptying ident route other s _ _ (λ yes. back-empties)
 
 -- the surplus goes back: no order's money
 module _ (ident : Ident) (other : Money) (s : Shipment) where
@@ -370,7 +368,7 @@ module _ (ident : Ident) (other : Money) (s : Shipment) where
   unfolding surplusReturned
   surplus-leaves =
       let act = Return Zwr other in
-      asked ident act s _ 24 _ (λ funded. asked ident act s _ 23 _ (λ some. quiet ident act s surplusBack refl refl surplus-stays (λ money. refl)))
+      leaving ident act s _ _ (λ yes. quiet ident act s surplusBack refl refl surplus-stays (λ money. refl))
 
   surplus-empties : Empties ident Zwr other s surplusBack
   unfolding waiting
@@ -382,7 +380,7 @@ module _ (ident : Ident) (other : Money) (s : Shipment) where
 
   surplus-returned-empties : Empties ident Zwr other s (surplusReturned other s)
   unfolding surplusReturned
-  surplus-returned-empties = asked-return ident Zwr other s _ 24 _ (λ funded. asked-return ident Zwr other s _ 23 _ (λ some. surplus-empties))
+  surplus-returned-empties = emptying ident Zwr other s _ _ (λ yes. surplus-empties)
 
 pub acted-empties : (ident : Ident) (route : Route) (money : Money) (s : Shipment) → Empties ident route money s (acted (Return route money) s)
 unfolding acted
@@ -394,17 +392,15 @@ acted-empties ident Zzr money s = returned-empties ident Zzr money s
 pub acted-leaves : (ident : Ident) (act : Act) (s : Shipment) → Leaves ident act s (acted act s)
 unfolding acted goneAhead paired closed onOrder
 acted-leaves ident GoAhead s =
-    asked ident GoAhead s _ 15 _ (λ waits. asked ident GoAhead s _ 16 _ (λ faulty. asked ident GoAhead s _ 17 _
-    (λ new. quiet ident GoAhead s (leave Done (withGoAhead s)) refl refl (λ money j. refl) (λ money. refl))))
+    leaving ident GoAhead s _ _ (λ yes. quiet ident GoAhead s (leave Done (withGoAhead s)) refl refl (λ money j. refl) (λ money. refl))
 acted-leaves ident Pair s =
-    asked ident Pair s _ 15 _ (λ waits. asked ident Pair s _ 18 _ (λ cleared. choose-either (Leaves ident Pair s) _ _ _
+    leaving ident Pair s _ _ (λ yes. cond-either (Leaves ident Pair s) (needsCovered s) _ _
     (λ covered. quiet ident Pair s (leave IsPaired (withStage Paired s)) refl refl (λ money j. refl) (λ money. refl))
-    (quiet ident Pair s (leave (Short _ _) s) refl refl (λ money j. refl) (λ money. refl))))
+    (λ short. quiet ident Pair s (leave (Short (missing K s) (missing O s)) s) refl refl (λ money j. refl) (λ money. refl)))
 acted-leaves ident Close s =
-    asked ident Close s _ 15 _ (λ waits. quiet ident Close s (leave Done (withStage Closed s)) refl refl (λ money j. refl) (λ money. refl))
+    leaving ident Close s _ _ (λ yes. quiet ident Close s (leave Done (withStage Closed s)) refl refl (λ money j. refl) (λ money. refl))
 acted-leaves ident (OnOrder deed number) s =
-    let act = OnOrder deed number in
-    asked ident act s _ 19 _ (λ paired. asked ident act s _ 20 _ (λ numbered. asked ident act s _ 21 _ (λ fit. deed-done ident deed number s numbered fit)))
+    leaving ident (OnOrder deed number) s _ _ (λ yes. deed-done ident deed number s (yes .1 .0) (yes .1 .1 .0))
 acted-leaves ident (Return Zwr money) s = surplus-leaves ident money s
 acted-leaves ident (Return Opr money) s = returned-leaves ident Opr money s (λ k total. refl)
 acted-leaves ident (Return Zpr money) s = returned-leaves ident Zpr money s (λ k total. refl)
@@ -419,8 +415,8 @@ pub record Keeps (call : Call) (s : Shipment) (o : Outcome) : Type 0 where
 pub transferred-keeps : (call : Call) (money : Money) (n : ℕ) (s : Shipment) → Keeps call s (transferred money n s)
 unfolding transferred
 transferred-keeps call money n s =
-    ask-either (Keeps call s) _ 14 s _ (λ n. record { named = refl; rows = refl; left = λ money. refl })
-    (λ room. record { named = refl; rows = refl; left = λ money. refl })
+    asked-either (Keeps call s) _ (refusing s) _ (λ n. record { named = refl; rows = refl; left = λ money. refl })
+    (λ yes. record { named = refl; rows = refl; left = λ money. refl })
 
 -- no order's money leaves by a call that is neither of an order nor a return
 pub none-leaves : (money : Money) (j : ℕ) (call : Call) → isOfOrder j call ≡ false → isReturnOf money call ≡ false

@@ -18,7 +18,7 @@ use Rattle.epe.specs.Ident.{sameIdent}
 use Rattle.epe.specs.Name.{nameOf, nameQuestions, nameInForm, titleOf}
 use Rattle.epe.specs.Opening.{fileQuestions, fixedQuestions, repeatedQuestions, openingQuestions, opening}
 use Rattle.epe.specs.File.{header}
-use Rattle.epe.specs.Contents.{contents, orders}
+use Rattle.epe.specs.Contents.{contentsQuestions, contents, orders}
 use Rattle.epe.specs.Accepted.{OrderInRange, EachInRange}
 use Rattle.epe.specs.Profile.{profileFits, feesFit}
 use Rattle.epe.specs.declared.ident.Ident.{Ident}
@@ -28,17 +28,17 @@ use Rattle.epe.specs.declared.record.Order.{Order}
 use Rattle.epe.specs.declared.verdict.Verdict.the-variants.{Passed}
 use Rattle.epe.proofs.AcceptedAsStated.{accepted-as-stated}
 use Rattle.epe.proofs.NameLaws.{parts-in-form}
-use Rattle.epe.proofs.QuestionLaws.{all-yes, all-yes-passed, yes-before, yes-behind}
+use Rattle.epe.proofs.QuestionLaws.{asked-either, all-yes, all-yes-passed, yes-before, yes-behind}
 use Rattle.model.specs.Shipment.{Shipment}
 use Rattle.model.specs.Calls.{Call, Intake, Transfer, On, Refused, Outcome, transferred, acted}
-use Rattle.model.specs.Book.{feeFor, Book, Step, stay, onFirst, isCalled, isUnknown, rowsIn}
-use Rattle.model.specs.Book.{enteredRow, entered, takenIn, step}
+use Rattle.model.specs.Book.{feeFor, Book, Step, stay, refusingIn, onFirst, isCalled, isUnknown, rowsIn}
+use Rattle.model.specs.Book.{enteredRow, entered, intakeQuestions, takenIn, step}
 use Rattle.model.specs.Sound.{faultInRange, beforePairing, rowSound, rowsSound, shipmentSound, shipmentsSound, sound, StaysSound, AlwaysSound}
 use Rattle.model.specs.Demand.{run}
 use Rattle.model.specs.declared.Stage.the-variants.{Waiting}
 use Rattle.model.specs.declared.State.{State}
 use Rattle.model.specs.declared.State.the-variants.{Open, Faulty}
-use Rattle.model.proofs.Asking.{inquire-either, verdict-either, transfer-either}
+use Rattle.model.proofs.Asking.{transfer-either}
 use Rattle.model.proofs.Known.{same-back, unknown-first, unknown-rest, append-unknown}
 use Rattle.model.proofs.SoundParts.{halves, MoneyInOrder, InOrder, in-order, shipment-sound}
 use Rattle.model.proofs.ActsKeepSound.{Kept, transferred-kept, acted-kept}
@@ -224,15 +224,18 @@ module _ (book : Book) (h : sound book ≡ true) where
   entered-behind profile name orders k unknown few rows = behind (entered profile name orders) k unknown few (omega (arith, length-map orders enteredRow))
 
   taken-in : (profile : Profile) (name file : List ℕ) → Left (takenIn profile name file book)
-  unfolding takenIn
+  unfolding takenIn intakeQuestions opening contents
   taken-in profile name file =
-      inquire-either Left _ 905 book _ refusal
-      (λ fits. verdict-either Left _ book _ refusal
-      (λ opened. inquire-either Left _ 101 book _ refusal
-      (λ unknown. verdict-either Left _ book _ refusal
-      (λ passed. inquire-either Left _ 903 book _ refusal
-      (λ few. inquire-either Left _ 904 book _ refusal
-      (λ rows. record { is-sound = new fits opened unknown passed few rows }))))))
+      let opened = openingQuestions name file in
+      let held = contentsQuestions profile file in
+      asked-either Left (intakeQuestions profile name file book) (refusingIn book) _ refusal
+      (λ yes.
+      let behind = yes-behind opened _ (yes .1) in
+      let room = yes-behind held _ (behind .1) in
+      record {
+        is-sound = new (yes .0) (all-yes-passed opened (yes-before opened _ (yes .1))) (behind .0)
+            (all-yes-passed held (yes-before held _ (behind .1))) (room .0) (room .1 .0);
+      })
     where
       new : profileFits profile ≡ true → opening name file ≡ Passed → isUnknown (nameOf name .ident) book ≡ true → contents profile file ≡ Passed
           → ltb (length book) 32 ≡ true → leb (rowsIn book + length (orders file)) 2048 ≡ true → sound (book ++ (entered profile (nameOf name) (orders file) ∷ [])) ≡ true

@@ -6,17 +6,16 @@ use Prim.Native.Nat.{ℕ, _+_}
 use lib.Dec.{leb, ltb, eqb}
 use lib.ListN.{length, getD}
 use Rattle.money.specs.Money.{fee, isTransfer}
+use Rattle.epe.specs.Questions.{Question, _elseNo_, asked}
 use Rattle.epe.specs.Ident.{sameIdent}
-use Rattle.epe.specs.Name.{nameOf, titleOf}
-use Rattle.epe.specs.Opening.{opening}
-use Rattle.epe.specs.Contents.{contents, orders, faultyCount}
+use Rattle.epe.specs.Name.{nameOf, titleQuestions, titleOf}
+use Rattle.epe.specs.Opening.{openingQuestions}
+use Rattle.epe.specs.Contents.{contentsQuestions, orders, faultyCount}
 use Rattle.epe.specs.Profile.{profileFits}
 use Rattle.epe.specs.declared.ident.Ident.{Ident}
 use Rattle.epe.specs.declared.name.Name.{Name}
 use Rattle.epe.specs.declared.profile.Profile.{Profile}
 use Rattle.epe.specs.declared.record.Order.{Order}
-use Rattle.epe.specs.declared.verdict.Verdict.{Verdict}
-use Rattle.epe.specs.declared.verdict.Verdict.the-variants.{Passed, Refused as No}
 use Rattle.model.specs.Shipment.{Shipment, sumOver}
 use Rattle.model.specs.Calls.{Call, Intake, Transfer, On, Answer, Refused, Accepted, Outcome, transferred, acted}
 use Rattle.model.specs.declared.Row.{Row}
@@ -35,15 +34,9 @@ pub record Step : Type 0 where
 abbrev pub stay : Answer → Book → Step
 stay answer book = record { book = book; answer = answer }
 
--- A question on the book: "no" answers its number and leaves it as it was.
-unfoldable pub inquire : Bool → ℕ → Book → Step → Step
-inquire true number book next = next
-inquire false number book next = stay (Refused number) book
-
--- Questions of the file that were asked already: a "no" answers its number.
-unfoldable pub unlessRefused : Verdict → Book → Step → Step
-unlessRefused Passed book next = next
-unlessRefused (No number) book next = stay (Refused number) book
+-- A question answered no: its number is the answer, and the book is as it was.
+abbrev pub refusingIn : Book → ℕ → Step
+refusingIn book number = stay (Refused number) book
 
 -- The first shipment that fits takes the call; where none does, 13.
 abbrev pub onFirst : (Shipment → Bool) → (Shipment → Outcome) → Book → Step
@@ -96,25 +89,30 @@ feeFor profile kind = getD (profile .fees) kind (fee 0) .0
 unfoldable pub entered : Profile → Name → List Order → Shipment
 entered profile name orders = newShipment name (feeFor profile (name .kind)) (map enteredRow orders)
 
--- "Profile within the ranges above? 905", the opening, "Identifier not yet in the book? 101", the contents,
--- "Fewer than 32 shipments in the book? 903", "Its orders fit with those present in 2,048 rows? 904".
+-- "Fewer than 32 shipments in the book? 903. Its orders fit with those present in 2,048 rows? 904"
+abbrev pub roomQuestions : ℕ → Book → List Question
+roomQuestions n book = (ltb (length book) 32 elseNo 903) ∷ (leb (rowsIn book + n) 2048 elseNo 904) ∷ []
+
+-- "Profile within the ranges above? 905", the opening, "Identifier not yet in the book? 101", the contents, and the room.
+unfoldable pub intakeQuestions : Profile → List ℕ → List ℕ → Book → List Question
+intakeQuestions profile name file book =
+    (profileFits profile elseNo 905)
+    ∷ (openingQuestions name file
+    ++ ((isUnknown (nameOf name .ident) book elseNo 101)
+    ∷ (contentsQuestions profile file
+    ++ roomQuestions (length (orders file)) book)))
+
 unfoldable pub takenIn : Profile → List ℕ → List ℕ → Book → Step
 takenIn profile name file book =
-    inquire (profileFits profile) 905 book
-    (unlessRefused (opening name file) book
-    (inquire (isUnknown (nameOf name .ident) book) 101 book
-    (unlessRefused (contents profile file) book
-    (inquire (ltb (length book) 32) 903 book
-    (inquire (leb (rowsIn book + length (orders file)) 2048) 904 book
-    (stay (Accepted (length (orders file)) (faultyCount (orders file))) (book ++ (entered profile (nameOf name) (orders file) ∷ []))))))))
+    asked (intakeQuestions profile name file book) (refusingIn book)
+    (stay (Accepted (length (orders file)) (faultyCount (orders file))) (book ++ (entered profile (nameOf name) (orders file) ∷ [])))
 
 -- "Transfer (title, amount): title is a shipment name in the form above, then `-K` or `-O`? 11. Amount 1 to 9,999,999,999,999? 12.
 -- Name in the book? 13. Total accepted for that money still at most 9,999,999,999,999? 14. .."
 unfoldable pub transferredIn : List ℕ → ℕ → Book → Step
 transferredIn title amount book =
-    unlessRefused (titleOf title .verdict) book
-    (inquire (isTransfer amount) 12 book
-    (onFirst (λ (s : Shipment). sameName (titleOf title .name) (s .name)) (transferred (titleOf title .money) amount) book))
+    asked (titleQuestions title ++ ((isTransfer amount elseNo 12) ∷ [])) (refusingIn book)
+    (onFirst (λ (s : Shipment). sameName (titleOf title .name) (s .name)) (transferred (titleOf title .money) amount) book)
 
 unfoldable pub step : Book → Call → Step
 step book (Intake profile name file) = takenIn profile name file book

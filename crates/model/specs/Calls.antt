@@ -1,6 +1,6 @@
 -- The calls and their answers, and what a call does to the shipment that it is for. Document 01, "The book".
 use mathlib.Core.Bool.{Bool, true, false, not, cond, _&&_, _||_}
-use mathlib.Core.List.{List, map}
+use mathlib.Core.List.{List, [], _∷_, map}
 use Prim.Native.Nat.{ℕ, _+_, _-_}
 use lib.Dec.{leb, ltb}
 use lib.ListN.{length, getD, set}
@@ -8,6 +8,7 @@ use Rattle.text.specs.Bytes.{between}
 use Rattle.money.specs.Money.{isSum}
 use Rattle.money.specs.declared.Money.{Money}
 use Rattle.money.specs.declared.Money.the-variants.{K, O}
+use Rattle.epe.specs.Questions.{Question, _elseNo_, asked}
 use Rattle.epe.specs.declared.ident.Ident.{Ident}
 use Rattle.epe.specs.declared.profile.Profile.{Profile}
 use Rattle.model.specs.Shipment.{byMoney, Shipment, accepted, isWaiting, isPaired, onlyIf, sumOver, isOpen, isPosted, isFaulty, isUndelivered, isWithdrawn}
@@ -75,15 +76,9 @@ pub record Outcome : Type 0 where
 abbrev pub leave : Answer → Shipment → Outcome
 leave answer s = record { shipment = s; answer = answer }
 
--- A question: "no" answers its number and leaves the shipment as it was.
-unfoldable pub ask : Bool → ℕ → Shipment → Outcome → Outcome
-ask true number s next = next
-ask false number s next = leave (Refused number) s
-
--- A choice between two outcomes.
-unfoldable pub choose : Bool → Outcome → Outcome → Outcome
-choose true a b = a
-choose false a b = b
+-- A question answered no: its number is the answer, and the shipment is as it was.
+abbrev pub refusing : Shipment → ℕ → Outcome
+refusing s number = leave (Refused number) s
 
 -- A shipment with one thing changed.
 abbrev pub withStage : Stage → Shipment → Shipment
@@ -156,28 +151,31 @@ withState state row = record { amount = row .amount; state = state }
 
 -- ".. Total accepted for that money still at most 9,999,999,999,999? 14. Any stage takes it."
 unfoldable pub transferred : Money → ℕ → Shipment → Outcome
-transferred money n s = ask (isSum (accepted money s + n)) 14 s (leave Done (withAccepted money n s))
+transferred money n s = asked ((isSum (accepted money s + n) elseNo 14) ∷ []) (refusing s) (leave Done (withAccepted money n s))
 
 -- "Go-ahead: .. Waiting? 15. Any faulty order? 16. None came before? 17."
 unfoldable pub goneAhead : Shipment → Outcome
 goneAhead s =
-    ask (isWaiting (s .stage)) 15 s
-    (ask (anyFaulty (s .rows)) 16 s
-    (ask (not (s .goAhead)) 17 s
-    (leave Done (withGoAhead s))))
+    asked ((isWaiting (s .stage) elseNo 15) ∷ (anyFaulty (s .rows) elseNo 16) ∷ (not (s .goAhead) elseNo 17) ∷ []) (refusing s)
+    (leave Done (withGoAhead s))
+
+-- ".. Paired when both needs are covered; ..", else what is missing of either money.
+abbrev pub needsCovered : Shipment → Bool
+needsCovered s = leb (need K s) (accepted K s) && leb (need O s) (accepted O s)
+
+abbrev pub missing : Money → Shipment → ℕ
+missing money s = need money s - accepted money s
 
 -- "Pair: .. 15. No faults, or go-ahead given? 18. Pairing answers Paired, or Short with the two missing amounts, or a refusal. Paired when both needs
 -- are covered; Short changes nothing."
 unfoldable pub paired : Shipment → Outcome
 paired s =
-    ask (isWaiting (s .stage)) 15 s
-    (ask (not (anyFaulty (s .rows)) || s .goAhead) 18 s
-    (choose (leb (need K s) (accepted K s) && leb (need O s) (accepted O s)) (leave IsPaired (withStage Paired s))
-    (leave (Short (need K s - accepted K s) (need O s - accepted O s)) s)))
+    asked ((isWaiting (s .stage) elseNo 15) ∷ (not (anyFaulty (s .rows)) || s .goAhead elseNo 18) ∷ []) (refusing s)
+    (cond (needsCovered s) (leave IsPaired (withStage Paired s)) (leave (Short (missing K s) (missing O s)) s))
 
 -- "Close (WYC or ODR): .. 15. Waiting becomes Closed."
 unfoldable pub closed : Shipment → Outcome
-closed s = ask (isWaiting (s .stage)) 15 s (leave Done (withStage Closed s))
+closed s = asked ((isWaiting (s .stage) elseNo 15) ∷ []) (refusing s) (leave Done (withStage Closed s))
 
 -- ".. Post: Open to Posted, F earned. Pay: Posted to Paid. Undelivered: Posted to Undelivered, K waiting. Withdraw: Open to Withdrawn, both waiting."
 abbrev pub fits : Deed → State → Bool
@@ -208,10 +206,12 @@ orderAt number s = getD (s .rows) (number - 1) noOrder
 -- "Post, pay, mark undelivered, withdraw one: .. Paired? 19. Order number from 1 to the count? 20. State fits? 21. .."
 unfoldable pub onOrder : Deed → ℕ → Shipment → Outcome
 onOrder deed number s =
-    ask (isPaired (s .stage)) 19 s
-    (ask (between 1 (length (s .rows)) number) 20 s
-    (ask (fits deed (orderAt number s .state)) 21 s
-    (leave (says deed (s .fee) (orderAt number s)) (withRows (set (s .rows) (number - 1) (withState (becomes deed) (orderAt number s))) s))))
+    asked
+    ((isPaired (s .stage) elseNo 19)
+    ∷ (between 1 (length (s .rows)) number elseNo 20)
+    ∷ (fits deed (orderAt number s .state) elseNo 21)
+    ∷ []) (refusing s)
+    (leave (says deed (s .fee) (orderAt number s)) (withRows (set (s .rows) (number - 1) (withState (becomes deed) (orderAt number s))) s))
 
 -- "OPR, ZPR, ZZR return all that waits in Faulty, Undelivered, Withdrawn orders, ..": whether a money of an order waits on a route.
 abbrev pub takes : Route → State → Bool
@@ -251,17 +251,18 @@ isZprWithO Zzr money = false
 -- ".. For the rest: Paired? 19. Not ZPR with O? 22. Anything above zero to return? 23. .."
 unfoldable pub returnedBy : Route → Money → Shipment → Outcome
 returnedBy route money s =
-    ask (isPaired (s .stage)) 19 s
-    (ask (not (isZprWithO route money)) 22 s
-    (ask (ltb 0 (waiting route money s)) 23 s
-    (leave (Returned (waiting route money s) (waitingOrders route money s)) (withRows (map (afterReturn route money) (s .rows)) s))))
+    asked
+    ((isPaired (s .stage) elseNo 19)
+    ∷ (not (isZprWithO route money) elseNo 22)
+    ∷ (ltb 0 (waiting route money s) elseNo 23)
+    ∷ []) (refusing s)
+    (leave (Returned (waiting route money s) (waitingOrders route money s)) (withRows (map (afterReturn route money) (s .rows)) s))
 
 -- ".. For ZWR: not Waiting? 24. .. Anything above zero to return? 23. ZWR returns the free money, count 0."
 unfoldable pub surplusReturned : Money → Shipment → Outcome
 surplusReturned money s =
-    ask (not (isWaiting (s .stage))) 24 s
-    (ask (ltb 0 (free money s)) 23 s
-    (leave (Returned (free money s) 0) (withReturned money (free money s) s)))
+    asked ((not (isWaiting (s .stage)) elseNo 24) ∷ (ltb 0 (free money s) elseNo 23) ∷ []) (refusing s)
+    (leave (Returned (free money s) 0) (withReturned money (free money s) s))
 
 -- What a call does to the shipment that it names.
 unfoldable pub acted : Act → Shipment → Outcome
