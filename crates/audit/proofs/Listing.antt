@@ -35,7 +35,7 @@ module _ {book : Book} {before : List ℕ} {made : Made} (held : readBook before
     refused = λ refusal. does .unmoved (refusal-moves-nothing (made .answer) refusal);
     others = λ ident other. rw (held, left) (at .others ident other);
     entire = λ ident money own. rw (held, left, answered) (at .entire ident money own);
-    counted = λ ident route money return. rw (held, left, answered) (at .counted ident route money return);
+    counted = λ ident route money return n. rw (held, left, answered) (at .counted ident route money return n);
     emptied = λ ident route money return accepted. rw left (at .emptied ident route money return (rw answered at accepted));
   }
 

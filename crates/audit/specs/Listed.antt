@@ -13,8 +13,9 @@ use Rattle.epe.specs.declared.ident.Ident.{Ident}
 use Rattle.model.specs.Shipment.{onlyIf, sumOver, worth}
 use Rattle.model.specs.Calls.{Call, Intake, Transfer, On, Return, Answer, Refused, isRefusal, waiting}
 use Rattle.model.specs.Book.{Book, find}
-use Rattle.model.specs.Demand.{Event, isFor, leftBy, acceptedFor, leftFor, events, bookAt, ofShipment, heldIn, freeIn, Covered}
-use Rattle.model.specs.Demand.{orderByIndex, ordersOf, feeOf, leavesBy, below, surplusBy, countIs}
+use Rattle.model.specs.Moved.{moved}
+use Rattle.model.specs.Demand.{Event, isFor, acceptedFor, leftFor, events, bookAt, ofShipment, heldIn, freeIn, Covered}
+use Rattle.model.specs.Demand.{orderByIndex, ordersOf, feeOf, below}
 use Rattle.model.specs.declared.Route.{Route}
 use Rattle.memory.specs.Read.{readBook}
 use Rattle.book.specs.Does.{Does}
@@ -57,7 +58,7 @@ bookInBytes m = bookOf (readBook m)
 abbrev pub leavesBytes : Money → Ident → ℕ → List ℕ → Made → Bool
 leavesBytes money ident j before made =
     isFor ident (made .call)
-    && leavesBy money j (made .call) (made .answer) (orderByIndex j (find ident (bookInBytes before))) (orderByIndex j (find ident (bookInBytes (made .memory))))
+    && moved (made .call) (made .answer) .takes money j (orderByIndex j (find ident (bookInBytes before))) (orderByIndex j (find ident (bookInBytes (made .memory))))
 
 abbrev pub timesLeftBytes : Money → Ident → ℕ → List ℕ → List Made → ℕ
 timesLeftBytes money ident j start [] = 0
@@ -72,13 +73,14 @@ pub record AtMade (before : List ℕ) (made : Made) : Type 0 where
   pub others : (ident : Ident) → isFor ident (made .call) ≡ false → find ident (bookInBytes (made .memory)) ≡ find ident (bookInBytes before)
   -- ".. no order's money leaves .. in part."
   pub entire : (ident : Ident) (money : Money) → isFor ident (made .call) ≡ true
-      → leftBy money (made .call) (made .answer)
+      → moved (made .call) (made .answer) .goesOut money
       ≡ below (ordersOf (find ident (bookInBytes before)))
       (λ j. onlyIf (leavesBytes money ident j before made) (worth money (feeOf (find ident (bookInBytes before))) (orderByIndex j (find ident (bookInBytes before)))))
-      + surplusBy money (made .call) (made .answer)
+      + moved (made .call) (made .answer) .surplus money
   -- A return's count, and ".. nothing of that money waits there after."
   pub counted : (ident : Ident) (route : Route) (money : Money) → made .call ≡ On ident (Return route money)
-      → countIs (below (ordersOf (find ident (bookInBytes before))) (λ j. onlyIf (leavesBytes money ident j before made) 1)) (made .answer)
+      → (n : ℕ) → moved (made .call) (made .answer) .count ≡ some n
+      → n ≡ below (ordersOf (find ident (bookInBytes before))) (λ j. onlyIf (leavesBytes money ident j before made) 1)
   pub emptied : (ident : Ident) (route : Route) (money : Money) → made .call ≡ On ident (Return route money) → isRefusal (made .answer) ≡ false
       → ofShipment (waiting route money) (find ident (bookInBytes (made .memory))) ≡ 0
 

@@ -24,7 +24,7 @@ use Rattle.model.specs.Calls.{withStage, withGoAhead, withAccepted, with
 use Rattle.model.specs.Calls.{transferred, goneAhead, needsCovered, paired, closed, fits, becomes, says, noOrder, orderAt, onOrder}
 use Rattle.model.specs.Calls.{takes, waitsOn, cleared, afterReturn, waiting, returnedBy, surplusReturned, acted}
 use Rattle.model.specs.Sound.{beforePairing, rowSound, rowsSound}
-use Rattle.model.specs.Demand.{isMoney, acceptedBy, leftBy}
+use Rattle.model.specs.Moved.{isMoney, moved}
 use Rattle.model.specs.declared.Deed.{Deed}
 use Rattle.model.specs.declared.Deed.the-variants.{Post, Pay, MarkUndelivered, Withdraw}
 use Rattle.model.specs.declared.Route.{Route}
@@ -96,9 +96,9 @@ pub record Fair (call : Call) (s : Shipment) (outcome : Outcome) : Type 0 where
   pub name : outcome .shipment .name ≡ s .name
   pub refused : isRefusal (outcome .answer) ≡ true → outcome .shipment ≡ s
   pub conserves : (money : Money)
-      → held money s + free money s + acceptedBy money call (outcome .answer)
-      ≡ held money (outcome .shipment) + free money (outcome .shipment) + leftBy money call (outcome .answer)
-  pub grows : (money : Money) → accepted money s + acceptedBy money call (outcome .answer) ≡ accepted money (outcome .shipment)
+      → held money s + free money s + moved call (outcome .answer) .comesIn money
+      ≡ held money (outcome .shipment) + free money (outcome .shipment) + moved call (outcome .answer) .goesOut money
+  pub grows : (money : Money) → accepted money s + moved call (outcome .answer) .comesIn money ≡ accepted money (outcome .shipment)
 
 -- a refusal is fair, so only what is done where all questions are answered yes is left to show
 fairly : (call : Call) (s : Shipment) (qs : List Question) (next : Outcome) → (AllYes qs → Fair call s next) → Fair call s (asked qs (refusing s) next)
@@ -213,20 +213,20 @@ module _ (call : Call) (s : Shipment) (b : Balanced s) (is-paired : isPaired (s 
   module _
       (counts : length rows ≡ length (s .rows))
       (sums : sumOver amountOf rows ≡ sumOver amountOf (s .rows))
-      (moved : (money : Money) → sumOver (heldBy money (s .fee)) rows + leftBy money call answer ≡ sumOver (heldBy money (s .fee)) (s .rows))
-      (none-in : (money : Money) → acceptedBy money call answer ≡ 0)
+      (fallen : (money : Money) → sumOver (heldBy money (s .fee)) rows + moved call answer .goesOut money ≡ sumOver (heldBy money (s .fee)) (s .rows))
+      (none-in : (money : Money) → moved call answer .comesIn money ≡ 0)
       (taken : isRefusal answer ≡ false) where
     rows-need : (money : Money) → needOncePaired money (withRows rows s) ≡ needOncePaired money s
     rows-need money = same-need-once money s (withRows rows s) refl (same-need money s (withRows rows s) refl counts sums)
 
     rows-conserve : (money : Money)
-        → held money s + free money s + acceptedBy money call answer ≡ held money (withRows rows s) + free money (withRows rows s) + leftBy money call answer
+        → held money s + free money s + moved call answer .comesIn money ≡ held money (withRows rows s) + free money (withRows rows s) + moved call answer .goesOut money
     unfolding held free
     rows-conserve money =
         omega (
           arith,
           rows-need money,
-          moved money,
+          fallen money,
           none-in money,
           only-if-true (isPaired (s .stage)) (sumOver (heldBy money (s .fee)) rows) is-paired,
           only-if-true (isPaired (s .stage)) (sumOver (heldBy money (s .fee)) (s .rows)) is-paired,
@@ -241,19 +241,20 @@ module _ (call : Call) (s : Shipment) (b : Balanced s) (is-paired : isPaired (s 
     }
 
 -- what the order holds less by a deed is what leaves
-deed-moves : (deed : Deed) (call : Call) (fee : ℕ) (row : Row) (money : Money)
-    → heldBy money fee (withState (becomes deed) row) + leftBy money call (says deed fee row) ≡ heldBy money fee (withState (stateFor deed) row)
-deed-moves Post call fee row K = omega arith
-deed-moves Post call fee row O = omega arith
-deed-moves Pay call fee row K = omega arith
-deed-moves Pay call fee row O = omega arith
-deed-moves MarkUndelivered call fee row K = omega arith
-deed-moves MarkUndelivered call fee row O = omega arith
-deed-moves Withdraw call fee row K = omega arith
-deed-moves Withdraw call fee row O = omega arith
+deed-moves : (deed : Deed) (ident : Ident) (number fee : ℕ) (row : Row) (money : Money)
+    → heldBy money fee (withState (becomes deed) row) + moved (On ident (OnOrder deed number)) (says deed fee row) .goesOut money
+    ≡ heldBy money fee (withState (stateFor deed) row)
+deed-moves Post ident number fee row K = omega arith
+deed-moves Post ident number fee row O = omega arith
+deed-moves Pay ident number fee row K = omega arith
+deed-moves Pay ident number fee row O = omega arith
+deed-moves MarkUndelivered ident number fee row K = omega arith
+deed-moves MarkUndelivered ident number fee row O = omega arith
+deed-moves Withdraw ident number fee row K = omega arith
+deed-moves Withdraw ident number fee row O = omega arith
 
 deed-brings-none : (deed : Deed) (ident : Ident) (number fee : ℕ) (row : Row) (money : Money)
-    → acceptedBy money (On ident (OnOrder deed number)) (says deed fee row) ≡ 0
+    → moved (On ident (OnOrder deed number)) (says deed fee row) .comesIn money ≡ 0
 deed-brings-none Post ident number fee row money = refl
 deed-brings-none Pay ident number fee row money = refl
 deed-brings-none MarkUndelivered ident number fee row money = refl
@@ -274,13 +275,13 @@ module _ (ident : Ident) (deed : Deed) (number : ℕ) (s : Shipment) (b : Balanc
 
   module _ (is-paired : isPaired (s .stage) ≡ true) (there : number - 1 < length (s .rows)) (fitting : fits deed (order .state) ≡ true) where
     deed-held : (money : Money)
-        → sumOver (heldBy money (s .fee)) (set (s .rows) (number - 1) after) + leftBy money (On ident (OnOrder deed number)) (says deed (s .fee) order)
+        → sumOver (heldBy money (s .fee)) (set (s .rows) (number - 1) after) + moved (On ident (OnOrder deed number)) (says deed (s .fee) order) .goesOut money
         ≡ sumOver (heldBy money (s .fee)) (s .rows)
     deed-held money =
         omega (
           arith,
           sum-set (heldBy money (s .fee)) (s .rows) (number - 1) after noOrder there,
-          deed-moves deed (On ident (OnOrder deed number)) (s .fee) order money,
+          deed-moves deed ident number (s .fee) order money,
           ap (λ state. heldBy money (s .fee) (withState state order)) (fitting-state deed (order .state) fitting),
         )
 

@@ -15,21 +15,21 @@ use Rattle.epe.proofs.IdentLaws.{same-is-equal}
 use Rattle.model.specs.Shipment.{Shipment, onlyIf, worth}
 use Rattle.model.specs.Calls.{Act, Return, Call, Intake, Transfer, On, Refused, isRefusal, Outcome, waiting, transferred, acted}
 use Rattle.model.specs.Book.{Book, Step, stay, find, step}
-use Rattle.model.specs.Demand.{isFor, leftBy, ofShipment, orderByIndex, leavesBy, leaves, below, ordersOf, feeOf}
-use Rattle.model.specs.Demand.{leftWithOrders, ordersLeaving, surplusBy, countIs}
+use Rattle.model.specs.Moved.{moved}
+use Rattle.model.specs.Demand.{isFor, ofShipment, orderByIndex, leaves, below, ordersOf, feeOf, leftWithOrders, ordersLeaving}
 use Rattle.model.specs.declared.Route.{Route}
 use Rattle.model.proofs.Asking.{intake-either, transfer-either}
 use Rattle.model.proofs.Sums.{below-none}
-use Rattle.model.proofs.Leaving.{acted-leaves, acted-empties, transferred-keeps}
+use Rattle.model.proofs.Leaving.{acted-leaves, none-counted, acted-empties, transferred-keeps}
 use Rattle.model.proofs.Finding.{answered, after, first-answer, on-answer, on-found, nothing-leaves}
 
 abbrev Entire : Ident → Money → Book → Call → Type 0
 Entire ident money book call =
-    leftBy money call (step book call .answer) ≡ leftWithOrders money ident book call + surplusBy money call (step book call .answer)
+    moved call (step book call .answer) .goesOut money ≡ leftWithOrders money ident book call + moved call (step book call .answer) .surplus money
 
 -- an answer that says that no order's money left
 record Quiet (call : Call) (next : Step) : Type 0 where
-  quiet : (money : Money) → leftBy money call (next .answer) ≡ surplusBy money call (next .answer)
+  quiet : (money : Money) → moved call (next .answer) .goesOut money ≡ moved call (next .answer) .surplus money
 
 quiet-entire : (call : Call) (book : Book) (ident : Ident) (money : Money) → Quiet call (step book call)
     → ((j : ℕ) → leaves money ident j book call ≡ false) → Entire ident money book call
@@ -54,18 +54,18 @@ transfer-quiet book title amount =
     let paid = titleOf title .money in
     transfer-either (Quiet call) title amount book (refusal call book) (record {
       quiet = λ money.
-          first-answer (transferred paid amount) (λ answer. leftBy money call answer ≡ surplusBy money call answer) refl
-          (λ s. transferred-keeps call paid amount s .left money) _ book;
+          first-answer (transferred paid amount) (λ answer. moved call answer .goesOut money ≡ moved call answer .surplus money) refl
+          (λ s. transferred-keeps title amount paid amount s .left money) _ book;
     })
 
 -- a call by an identifier, for its shipment
 module _ (ident : Ident) (act : Act) where
   found-entire : (money : Money) (found : Option Shipment)
-      → leftBy money (On ident act) (answered (acted act) found)
+      → moved (On ident act) (answered (acted act) found) .goesOut money
       ≡ below (ordersOf found)
-      (λ j. onlyIf (leavesBy money j (On ident act) (answered (acted act) found) (orderByIndex j found) (orderByIndex j (after (acted act) found)))
+      (λ j. onlyIf (moved (On ident act) (answered (acted act) found) .takes money j (orderByIndex j found) (orderByIndex j (after (acted act) found)))
       (worth money (feeOf found) (orderByIndex j found)))
-      + surplusBy money (On ident act) (answered (acted act) found)
+      + moved (On ident act) (answered (acted act) found) .surplus money
   found-entire money none = refl
   found-entire money (some s) = acted-leaves ident act s .entire money
 
@@ -76,14 +76,14 @@ module _ (ident : Ident) (act : Act) where
 
 -- "No order's money leaves .. in part."
 pub entire : (book : Book) (call : Call) (ident : Ident) (money : Money) → isFor ident call ≡ true
-    → leftBy money call (step book call .answer) ≡ leftWithOrders money ident book call + surplusBy money call (step book call .answer)
+    → moved call (step book call .answer) .goesOut money ≡ leftWithOrders money ident book call + moved call (step book call .answer) .surplus money
 unfolding isFor
 entire book (Intake profile name file) ident money for =
     let call = Intake profile name file in
-    quiet-entire call book ident money (intake-quiet book profile name file) (λ j. nothing-leaves money ident j book call refl refl)
+    quiet-entire call book ident money (intake-quiet book profile name file) (λ j. nothing-leaves money ident j book call refl (λ total orders. refl))
 entire book (Transfer title amount) ident money for =
     let call = Transfer title amount in
-    quiet-entire call book ident money (transfer-quiet book title amount) (λ j. nothing-leaves money ident j book call refl refl)
+    quiet-entire call book ident money (transfer-quiet book title amount) (λ j. nothing-leaves money ident j book call refl (λ total orders. refl))
 entire book (On other act) ident money for =
     subst (λ (other : Ident). Entire ident money book (On other act)) (same-is-equal ident other .0 for) (on-entire ident act money book)
 
@@ -96,16 +96,16 @@ module _ (ident : Ident) (route : Route) (money : Money) where
   does = acted (Return route money)
 
   found-counted : (found : Option Shipment)
-      → countIs (below (ordersOf found)
-      (λ j. onlyIf (leavesBy money j call (answered does found) (orderByIndex j found) (orderByIndex j (after does found))) 1)) (answered does found)
-  found-counted none = tt
+      → (n : ℕ) → moved call (answered does found) .count ≡ some n
+      → n ≡ below (ordersOf found) (λ j. onlyIf (moved call (answered does found) .takes money j (orderByIndex j found) (orderByIndex j (after does found))) 1)
+  found-counted none = λ n said. absurd (none-counted said)
   found-counted (some s) = acted-empties ident route money s .counted
 
   found-emptied : (found : Option Shipment) → isRefusal (answered does found) ≡ false → ofShipment (waiting route money) (after does found) ≡ 0
   found-emptied none accepted = refl
   found-emptied (some s) accepted = acted-empties ident route money s .emptied accepted
 
-  on-counted : (book : Book) → countIs (ordersLeaving money ident book call) (step book call .answer)
+  on-counted : (book : Book) (n : ℕ) → moved call (step book call .answer) .count ≡ some n → n ≡ ordersLeaving money ident book call
   unfolding isFor
   on-counted book =
       rw (on-answer ident (Return route money) book, on-found ident (Return route money) book, same-is-equal ident ident .1 refl)
@@ -116,7 +116,7 @@ module _ (ident : Ident) (route : Route) (money : Money) where
 
 -- A return's count.
 pub counted : (book : Book) (call : Call) (ident : Ident) (route : Route) (money : Money) → call ≡ On ident (Return route money)
-    → countIs (ordersLeaving money ident book call) (step book call .answer)
+    → (n : ℕ) → moved call (step book call .answer) .count ≡ some n → n ≡ ordersLeaving money ident book call
 counted book call ident route money is = rw is (on-counted ident route money book)
 
 -- "Nothing of that money waits there after."

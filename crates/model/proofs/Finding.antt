@@ -14,7 +14,8 @@ use Rattle.epe.specs.declared.name.Name.{Name}
 use Rattle.model.specs.Shipment.{Shipment}
 use Rattle.model.specs.Calls.{Act, Call, On, Answer, Refused, Outcome, acted}
 use Rattle.model.specs.Book.{Book, onFirst, isCalled, find, step}
-use Rattle.model.specs.Demand.{isFor, ofShipment, orderByIndex, isOfOrder, isReturnOf, leavesBy, leaves}
+use Rattle.model.specs.Moved.{nothing, orderNamed, whenReturned, moved}
+use Rattle.model.specs.Demand.{isFor, ofShipment, orderByIndex, leaves}
 use Rattle.model.proofs.Leaving.{acted-leaves, none-leaves}
 
 -- what is done to the shipment that was found, and the answer: 13 where none was
@@ -87,10 +88,10 @@ module _ (ident : Ident) (act : Act) (book : Book) where
   on-found = found-after (acted act) (λ s. acted-leaves ident act s .named) ident book
 
 -- no order's money leaves by a call that is neither of an order nor a return
-pub nothing-leaves : (money : Money) (ident : Ident) (j : ℕ) (book : Book) (call : Call) → isOfOrder j call ≡ false → isReturnOf money call ≡ false
-    → leaves money ident j book call ≡ false
+pub nothing-leaves : (money : Money) (ident : Ident) (j : ℕ) (book : Book) (call : Call) → orderNamed call ≡ 0
+    → ((total orders : ℕ) → whenReturned call total orders ≡ nothing) → leaves money ident j book call ≡ false
 nothing-leaves money ident j book call of-none back-none =
     let before = orderByIndex j (find ident book) in
     let later = orderByIndex j (find ident (step book call .book)) in
     let answer = step book call .answer in
-    second-no (isFor ident call) (leavesBy money j call answer before later) (none-leaves money j call of-none back-none answer before later)
+    second-no (isFor ident call) (moved call answer .takes money j before later) (none-leaves money j call of-none back-none answer before later)

@@ -4,7 +4,7 @@
 use mathlib.Core.Path.{_≡_, refl, ap, sym, _∙_}
 use mathlib.Core.Bool.{Bool, true, false, not, cond, _&&_, false≢true, and-not-self, and-true, and-false, or-true}
 use mathlib.Core.List.{List, map}
-use mathlib.Core.Option.{some}
+use mathlib.Core.Option.{Option, some, none}
 use Prim.Native.Nat.{ℕ, _+_, _-_, _<_, _≤_}
 use native.Mathlib.Omega.{arith}
 use borrow.Author.Tests.{leb-true, eqb-true, eqb-false, eq-eqb, ne-eqb}
@@ -19,12 +19,13 @@ use Rattle.epe.specs.Questions.{Question, AllYes, asked}
 use Rattle.epe.specs.declared.ident.Ident.{Ident}
 use Rattle.epe.proofs.QuestionLaws.{asked-either}
 use Rattle.model.specs.Shipment.{byMoney, Shipment, onlyIf, sumOver, isOpen, isPosted, waits, worth, free, holds}
-use Rattle.model.specs.Calls.{Act, GoAhead, Pair, Close, OnOrder, Return, Call, On}
+use Rattle.model.specs.Calls.{Act, GoAhead, Pair, Close, OnOrder, Return, Call, Intake, Transfer, On}
 use Rattle.model.specs.Calls.{Answer, Refused, Done, Accepted, IsPaired, Short, FeeEarned, AmountPaid, Returned, isRefusal}
 use Rattle.model.specs.Calls.{Outcome, leave, refusing, withStage, withGoAhead, withReturned, withRows, withState, transferred, goneAhead, needsCovered, missing, paired, closed}
 use Rattle.model.specs.Calls.{fits, becomes, says, noOrder, orderAt, onOrder}
 use Rattle.model.specs.Calls.{takes, waitsOn, cleared, afterReturn, waiting, waitingOrders, returnedBy, surplusReturned, acted}
-use Rattle.model.specs.Demand.{isMoney, leftBy, orderByIndex, isOfOrder, isReturnOf, waitEnds, leavesBy, below, surplusOf, surplusBy, countIs}
+use Rattle.model.specs.Moved.{isMoney, Moved, nothing, waitEnds, surplusOf, orderNamed, whenReturned, moved}
+use Rattle.model.specs.Demand.{orderByIndex, below}
 use Rattle.model.specs.declared.Deed.{Deed}
 use Rattle.model.specs.declared.Deed.the-variants.{Post, Pay, MarkUndelivered, Withdraw}
 use Rattle.model.specs.declared.Route.{Route}
@@ -155,7 +156,7 @@ module _ (route : Route) where
 -- What an act leaves of a shipment, and its answer, as far as its orders' moneys go.
 module _ (ident : Ident) (act : Act) (s : Shipment) where
   abbrev pub leavesAt : Money → ℕ → Outcome → Bool
-  leavesAt money j o = leavesBy money j (On ident act) (o .answer) (orderByIndex j (some s)) (orderByIndex j (some (o .shipment)))
+  leavesAt money j o = moved (On ident act) (o .answer) .takes money j (orderByIndex j (some s)) (orderByIndex j (some (o .shipment)))
 
   -- the whole worth of each order whose money leaves
   abbrev pub leftWith : Money → Outcome → ℕ
@@ -164,12 +165,12 @@ module _ (ident : Ident) (act : Act) (s : Shipment) where
   pub record Leaves (o : Outcome) : Type 0 where
     pub named : o .shipment .name ≡ s .name
     pub once : (money : Money) (j : ℕ) → goneAt money j s + onlyIf (leavesAt money j o) 1 ≤ goneAt money j (o .shipment)
-    pub entire : (money : Money) → leftBy money (On ident act) (o .answer) ≡ leftWith money o + surplusBy money (On ident act) (o .answer)
+    pub entire : (money : Money) → moved (On ident act) (o .answer) .goesOut money ≡ leftWith money o + moved (On ident act) (o .answer) .surplus money
 
   -- orders as they were, and no money of theirs leaves
   quiet : (o : Outcome) → o .shipment .name ≡ s .name → o .shipment .rows ≡ s .rows
       → ((money : Money) (j : ℕ) → leavesAt money j o ≡ false)
-      → ((money : Money) → leftBy money (On ident act) (o .answer) ≡ surplusBy money (On ident act) (o .answer))
+      → ((money : Money) → moved (On ident act) (o .answer) .goesOut money ≡ moved (On ident act) (o .answer) .surplus money)
       → Leaves o
   quiet o named rows stays surplus = record {
     named = named;
@@ -209,7 +210,7 @@ deed-gone Withdraw O state is = rw (open-is state is)
 
 module _ (ident : Ident) (number fee : ℕ) (row : Row) where
   deed-leaves : (deed : Deed) (money : Money) (j : ℕ) (before after : Row)
-      → leavesBy money j (On ident (OnOrder deed number)) (says deed fee row) before after ≡ (eqb number (j + 1) && takesOut deed money)
+      → moved (On ident (OnOrder deed number)) (says deed fee row) .takes money j before after ≡ (eqb number (j + 1) && takesOut deed money)
   deed-leaves Post K j before after = sym (and-false (eqb number (j + 1)))
   deed-leaves Post O j before after = sym (and-true (eqb number (j + 1)))
   deed-leaves Pay K j before after = sym (and-true (eqb number (j + 1)))
@@ -218,7 +219,7 @@ module _ (ident : Ident) (number fee : ℕ) (row : Row) where
   deed-leaves Withdraw money j before after = sym (and-false (eqb number (j + 1)))
 
   deed-left : (deed : Deed) (money : Money)
-      → leftBy money (On ident (OnOrder deed number)) (says deed fee row) ≡ onlyIf (takesOut deed money) (worth money fee row)
+      → moved (On ident (OnOrder deed number)) (says deed fee row) .goesOut money ≡ onlyIf (takesOut deed money) (worth money fee row)
   deed-left Post K = refl
   deed-left Post O = refl
   deed-left Pay K = refl
@@ -226,7 +227,7 @@ module _ (ident : Ident) (number fee : ℕ) (row : Row) where
   deed-left MarkUndelivered money = refl
   deed-left Withdraw money = refl
 
-  deed-surplus : (deed : Deed) (money : Money) → surplusBy money (On ident (OnOrder deed number)) (says deed fee row) ≡ 0
+  deed-surplus : (deed : Deed) (money : Money) → moved (On ident (OnOrder deed number)) (says deed fee row) .surplus money ≡ 0
   deed-surplus Post money = refl
   deed-surplus Pay money = refl
   deed-surplus MarkUndelivered money = refl
@@ -282,7 +283,7 @@ module _ (ident : Ident) (deed : Deed) (number : ℕ) (s : Shipment)
         ∙ ap (λ t. ifTaken t (number - 1)) (eq-eqb number (number - 1 + 1) (omega (arith, first)))
 
   deed-entire : (money : Money)
-      → leftBy money call (done .answer) ≡ leftWith ident (OnOrder deed number) s money done + surplusBy money call (done .answer)
+      → moved call (done .answer) .goesOut money ≡ leftWith ident (OnOrder deed number) s money done + moved call (done .answer) .surplus money
   deed-entire money =
       let row = orderAt number s in
       omega (arith, deed-left ident number (s .fee) row deed money, deed-surplus ident number (s .fee) row deed money, deed-place money)
@@ -290,15 +291,23 @@ module _ (ident : Ident) (deed : Deed) (number : ℕ) (s : Shipment)
   deed-done : Leaves ident (OnOrder deed number) s done
   deed-done = record { named = refl; once = deed-once; entire = deed-entire }
 
+-- an answer that counts no orders, and one that counts some
+pub none-counted : {n : ℕ} → _≡_ {A = Option ℕ} none (some n) → ⊥
+none-counted said = let never : _≡_ {A = ℕ} 0 1 = cc in omega arith
+
+some-counted : (orders n : ℕ) → _≡_ {A = Option ℕ} (some orders) (some n) → n ≡ orders
+some-counted orders n said = cc
+
 -- A return, as far as its count goes and what still waits on its route.
 module _ (ident : Ident) (route : Route) (money : Money) (s : Shipment) where
   pub record Empties (o : Outcome) : Type 0 where
-    pub counted : countIs (below (length (s .rows)) (λ j. onlyIf (leavesAt ident (Return route money) s money j o) 1)) (o .answer)
+    pub counted : (n : ℕ) → moved (On ident (Return route money)) (o .answer) .count ≡ some n
+        → n ≡ below (length (s .rows)) (λ j. onlyIf (leavesAt ident (Return route money) s money j o) 1)
     pub emptied : isRefusal (o .answer) ≡ false → waiting route money (o .shipment) ≡ 0
 
   emptying : (qs : List Question) (next : Outcome) → (AllYes qs → Empties next) → Empties (asked qs (refusing s) next)
   emptying qs next accepted =
-      asked-either Empties qs (refusing s) next (λ n. record { counted = tt; emptied = λ accepted. absurd (false≢true (sym accepted)) }) accepted
+      asked-either Empties qs (refusing s) next (λ n. record { counted = λ n said. absurd (none-counted said); emptied = λ accepted. absurd (false≢true (sym accepted)) }) accepted
 
 -- what waits on a route goes back
 module _ (ident : Ident) (route : Route) (other : Money) (s : Shipment) where
@@ -330,25 +339,24 @@ module _ (ident : Ident) (route : Route) (other : Money) (s : Shipment) where
       (λ same. rw (same-money money other same) (ap (λ t. onlyIf t (waiting route other s)) (money-itself other) ∙ back-sum (worth other (s .fee))))
       (λ apart. rw apart (sym (below-none (length (s .rows)) (λ j. 0) (λ j. refl))))
 
-  back-leaving : ((money : Money) (total : ℕ) → surplusOf money (On ident (Return route other)) total ≡ 0) → Leaves ident (Return route other) s back
+  back-leaving : ((n : ℕ) → surplusOf route n ≡ 0) → Leaves ident (Return route other) s back
   back-leaving surplus = record {
     named = refl;
     once = back-once;
-    entire = λ money. omega (arith, back-left money, surplus money (waiting route other s));
+    entire = λ money. omega (arith, back-left money, surplus (onlyIf (isMoney money other) (waiting route other s)));
   }
 
   back-empties : Empties ident route other s back
   unfolding waiting waitingOrders
   back-empties = record {
-    counted = back-sum (λ row. 1);
+    counted = λ n said. some-counted (waitingOrders route other s) n said ∙ back-sum (λ row. 1);
     emptied = λ accepted.
         sum-map (λ (row : Row). onlyIf (waitsOn route other row) (worth other (s .fee) row)) (λ row. 0) (afterReturn route other)
         (λ row. ap (λ t. onlyIf t (worth other (s .fee) (afterReturn route other row))) (return-empties route other row)) (s .rows)
         ∙ sum-none (λ row. 0) (s .rows) (λ row. refl);
   }
 
-  returned-leaves : ((money : Money) (total : ℕ) → surplusOf money (On ident (Return route other)) total ≡ 0)
-      → Leaves ident (Return route other) s (returnedBy route other s)
+  returned-leaves : ((n : ℕ) → surplusOf route n ≡ 0) → Leaves ident (Return route other) s (returnedBy route other s)
   unfolding returnedBy
   returned-leaves surplus = leaving ident (Return route other) s _ _ (λ yes. back-leaving surplus)
 
@@ -373,7 +381,9 @@ module _ (ident : Ident) (other : Money) (s : Shipment) where
   surplus-empties : Empties ident Zwr other s surplusBack
   unfolding waiting
   surplus-empties = record {
-    counted = sym (below-none (length (s .rows)) (λ j. onlyIf (leavesAt ident (Return Zwr other) s other j surplusBack) 1)
+    counted = λ n said.
+        some-counted 0 n said
+        ∙ sym (below-none (length (s .rows)) (λ j. onlyIf (leavesAt ident (Return Zwr other) s other j surplusBack) 1)
         (λ j. ap (λ t. onlyIf t 1) (surplus-stays other j)));
     emptied = λ accepted. sum-none (λ (row : Row). 0) (s .rows) (λ row. refl);
   }
@@ -402,32 +412,38 @@ acted-leaves ident Close s =
 acted-leaves ident (OnOrder deed number) s =
     leaving ident (OnOrder deed number) s _ _ (λ yes. deed-done ident deed number s (yes .1 .0) (yes .1 .1 .0))
 acted-leaves ident (Return Zwr money) s = surplus-leaves ident money s
-acted-leaves ident (Return Opr money) s = returned-leaves ident Opr money s (λ k total. refl)
-acted-leaves ident (Return Zpr money) s = returned-leaves ident Zpr money s (λ k total. refl)
-acted-leaves ident (Return Zzr money) s = returned-leaves ident Zzr money s (λ k total. refl)
+acted-leaves ident (Return Opr money) s = returned-leaves ident Opr money s (λ n. refl)
+acted-leaves ident (Return Zpr money) s = returned-leaves ident Zpr money s (λ n. refl)
+acted-leaves ident (Return Zzr money) s = returned-leaves ident Zzr money s (λ n. refl)
 
 -- A transfer keeps the orders, and what its answer says is no money that leaves.
 pub record Keeps (call : Call) (s : Shipment) (o : Outcome) : Type 0 where
   pub named : o .shipment .name ≡ s .name
   pub rows : o .shipment .rows ≡ s .rows
-  pub left : (money : Money) → leftBy money call (o .answer) ≡ surplusBy money call (o .answer)
+  pub left : (money : Money) → moved call (o .answer) .goesOut money ≡ moved call (o .answer) .surplus money
 
-pub transferred-keeps : (call : Call) (money : Money) (n : ℕ) (s : Shipment) → Keeps call s (transferred money n s)
+pub transferred-keeps : (title : List ℕ) (amount : ℕ) (money : Money) (n : ℕ) (s : Shipment) → Keeps (Transfer title amount) s (transferred money n s)
 unfolding transferred
-transferred-keeps call money n s =
-    asked-either (Keeps call s) _ (refusing s) _ (λ n. record { named = refl; rows = refl; left = λ money. refl })
+transferred-keeps title amount money n s =
+    asked-either (Keeps (Transfer title amount) s) _ (refusing s) _ (λ n. record { named = refl; rows = refl; left = λ money. refl })
     (λ yes. record { named = refl; rows = refl; left = λ money. refl })
 
 -- no order's money leaves by a call that is neither of an order nor a return
-pub none-leaves : (money : Money) (j : ℕ) (call : Call) → isOfOrder j call ≡ false → isReturnOf money call ≡ false
-    → (answer : Answer) (before after : Row) → leavesBy money j call answer before after ≡ false
+pub none-leaves : (money : Money) (j : ℕ) (call : Call) → orderNamed call ≡ 0 → ((total orders : ℕ) → whenReturned call total orders ≡ nothing)
+    → (answer : Answer) (before after : Row) → moved call answer .takes money j before after ≡ false
 none-leaves money j call of-none back-none (Refused n) before after = refl
-none-leaves money j call of-none back-none Done before after = refl
+none-leaves money j call of-none back-none Done before after = done-takes-none call
+  where
+    done-takes-none : (call : Call) → moved call Done .takes money j before after ≡ false
+    done-takes-none (Intake profile name file) = refl
+    done-takes-none (Transfer title amount) = refl
+    done-takes-none (On ident act) = refl
 none-leaves money j call of-none back-none (Accepted orders faulty) before after = refl
 none-leaves money j call of-none back-none IsPaired before after = refl
 none-leaves money j call of-none back-none (Short k o) before after = refl
 none-leaves K j call of-none back-none (FeeEarned fee) before after = refl
-none-leaves O j call of-none back-none (FeeEarned fee) before after = of-none
-none-leaves K j call of-none back-none (AmountPaid amount) before after = of-none
+none-leaves O j call of-none back-none (FeeEarned fee) before after = ne-eqb (orderNamed call) (j + 1) (λ is. omega (arith, of-none))
+none-leaves K j call of-none back-none (AmountPaid amount) before after = ne-eqb (orderNamed call) (j + 1) (λ is. omega (arith, of-none))
 none-leaves O j call of-none back-none (AmountPaid amount) before after = refl
-none-leaves money j call of-none back-none (Returned total count) before after = rw back-none
+none-leaves money j call of-none back-none (Returned total count) before after =
+    ap (λ (m : Moved). m .takes money j before after) (back-none total count)

@@ -15,7 +15,8 @@ use Rattle.epe.proofs.IdentLaws.{same-is-equal}
 use Rattle.model.specs.Shipment.{Shipment, onlyIf}
 use Rattle.model.specs.Calls.{Act, Call, Intake, Transfer, On, Refused, transferred, acted}
 use Rattle.model.specs.Book.{Book, Step, stay, find, step}
-use Rattle.model.specs.Demand.{isFor, run, ofShipment, orderByIndex, leavesBy, leaves, timesLeft}
+use Rattle.model.specs.Moved.{moved}
+use Rattle.model.specs.Demand.{isFor, run, ofShipment, orderByIndex, leaves, timesLeft}
 use Rattle.model.proofs.Asking.{intake-either, transfer-either}
 use Rattle.model.proofs.Leaving.{goneAt, gone-one, acted-leaves, transferred-keeps}
 use Rattle.model.proofs.Finding.{answered, after, found-grows, appended-grows, on-answer, on-found, nothing-leaves}
@@ -36,7 +37,7 @@ module _ (money : Money) (ident : Ident) (j : ℕ) where
   step-grows book (Intake profile name file) =
       intake-either (Grows book) profile name file book (refusal book) (λ new. record { grows = appended-grows (goneAt money j) ident book _ })
   step-grows book (Transfer title amount) =
-      let keeps = transferred-keeps (Transfer title amount) (titleOf title .money) amount in
+      let keeps = transferred-keeps title amount (titleOf title .money) amount in
       transfer-either (Grows book) title amount book (refusal book) (record {
         grows = found-grows (transferred (titleOf title .money) amount) (λ s. keeps s .named) (goneAt money j)
             (λ s. rw (keeps s .rows) (omega arith)) _ ident book;
@@ -55,7 +56,7 @@ module _ (money : Money) (ident : Ident) (j : ℕ) where
 
   found-once : (act : Act) (found : Option Shipment)
       → ofShipment (goneAt money j) found
-      + onlyIf (leavesBy money j (On ident act) (answered (acted act) found) (orderByIndex j found) (orderByIndex j (after (acted act) found))) 1
+      + onlyIf (moved (On ident act) (answered (acted act) found) .takes money j (orderByIndex j found) (orderByIndex j (after (acted act) found))) 1
       ≤ ofShipment (goneAt money j) (after (acted act) found)
   found-once act none = omega arith
   found-once act (some s) = acted-leaves ident act s .once money j
@@ -68,10 +69,10 @@ module _ (money : Money) (ident : Ident) (j : ℕ) where
   unfolding isFor
   step-once book (Intake profile name file) =
       let call = Intake profile name file in
-      not-leaving book call (nothing-leaves money ident j book call refl refl)
+      not-leaving book call (nothing-leaves money ident j book call refl (λ total orders. refl))
   step-once book (Transfer title amount) =
       let call = Transfer title amount in
-      not-leaving book call (nothing-leaves money ident j book call refl refl)
+      not-leaving book call (nothing-leaves money ident j book call refl (λ total orders. refl))
   step-once book (On other act) =
       either-way (sameIdent ident other)
       (λ same. subst (λ (other : Ident). Once book (On other act)) (same-is-equal ident other .0 same) (on-once book act))

@@ -23,7 +23,8 @@ use Rattle.model.specs.Calls.{Act, Call, Intake, Transfer, On, Answer, R
 use Rattle.model.specs.Book.{Book, Step, stay, onFirst, isCalled, sameName, find, isUnknown, entered}
 use Rattle.model.specs.Book.{step}
 use Rattle.model.specs.Sound.{shipmentsSound, sound}
-use Rattle.model.specs.Demand.{isFor, acceptedBy, leftBy, ofShipment, heldIn, freeIn, acceptedIn}
+use Rattle.model.specs.Moved.{moved}
+use Rattle.model.specs.Demand.{isFor, ofShipment, heldIn, freeIn, acceptedIn}
 use Rattle.model.proofs.Asking.{not-both, intake-either, transfer-either}
 use Rattle.model.proofs.Known.{found, passed, unknown-first, unknown-rest, unknown-none, append-other, append-new}
 use Rattle.model.proofs.SoundParts.{halves, in-order}
@@ -46,19 +47,19 @@ book-kept book h = each book (search halves)
 -- What a shipment that was found holds and has free, and what it has accepted, changes just by what an answer says.
 abbrev Moves : Money → Call → Answer → Option Shipment → Option Shipment → Type 0
 Moves money call answer before after =
-    (ofShipment (held money) before + ofShipment (free money) before + acceptedBy money call answer
-    ≡ ofShipment (held money) after + ofShipment (free money) after + leftBy money call answer)
-    × (ofShipment (accepted money) before + acceptedBy money call answer ≡ ofShipment (accepted money) after)
+    (ofShipment (held money) before + ofShipment (free money) before + moved call answer .comesIn money
+    ≡ ofShipment (held money) after + ofShipment (free money) after + moved call answer .goesOut money)
+    × (ofShipment (accepted money) before + moved call answer .comesIn money ≡ ofShipment (accepted money) after)
 
 -- What a step leaves of a book, as demand 3 wants it.
 pub record StepFair (book : Book) (call : Call) (next : Step) : Type 0 where
   pub refused : isRefusal (next .answer) ≡ true → next .book ≡ book
   pub others : (ident : Ident) → isFor ident call ≡ false → find ident (next .book) ≡ find ident book
   pub conserves : (ident : Ident) (money : Money)
-      → heldIn money ident book + freeIn money ident book + onlyIf (isFor ident call) (acceptedBy money call (next .answer))
-      ≡ heldIn money ident (next .book) + freeIn money ident (next .book) + onlyIf (isFor ident call) (leftBy money call (next .answer))
+      → heldIn money ident book + freeIn money ident book + onlyIf (isFor ident call) (moved call (next .answer) .comesIn money)
+      ≡ heldIn money ident (next .book) + freeIn money ident (next .book) + onlyIf (isFor ident call) (moved call (next .answer) .goesOut money)
   pub grows : (ident : Ident) (money : Money)
-      → acceptedIn money ident book + onlyIf (isFor ident call) (acceptedBy money call (next .answer)) ≡ acceptedIn money ident (next .book)
+      → acceptedIn money ident book + onlyIf (isFor ident call) (moved call (next .answer) .comesIn money) ≡ acceptedIn money ident (next .book)
 
 nothing-more : (t : Bool) (n : ℕ) → n + onlyIf t 0 ≡ n
 nothing-more true n = omega arith
@@ -86,8 +87,8 @@ module _
       subst (λ i. Moves money call (next .answer) (find i book) (find i (next .book))) (sym (same-is-equal ident named .0 same)) (moves money)
 
   step-conserves : (ident : Ident) (money : Money)
-      → heldIn money ident book + freeIn money ident book + onlyIf (isFor ident call) (acceptedBy money call (next .answer))
-      ≡ heldIn money ident (next .book) + freeIn money ident (next .book) + onlyIf (isFor ident call) (leftBy money call (next .answer))
+      → heldIn money ident book + freeIn money ident book + onlyIf (isFor ident call) (moved call (next .answer) .comesIn money)
+      ≡ heldIn money ident (next .book) + freeIn money ident (next .book) + onlyIf (isFor ident call) (moved call (next .answer) .goesOut money)
   step-conserves ident money = either-way (sameIdent ident named)
       (λ same.
       let this = is-for ident ∙ same in
@@ -97,7 +98,7 @@ module _
       rw (this, others ident apart))
 
   step-grows : (ident : Ident) (money : Money)
-      → acceptedIn money ident book + onlyIf (isFor ident call) (acceptedBy money call (next .answer)) ≡ acceptedIn money ident (next .book)
+      → acceptedIn money ident book + onlyIf (isFor ident call) (moved call (next .answer) .comesIn money) ≡ acceptedIn money ident (next .book)
   step-grows ident money = either-way (sameIdent ident named)
       (λ same.
       let this = is-for ident ∙ same in
