@@ -26,7 +26,7 @@ use Rattle.epe.specs.declared.verdict.Verdict.the-variants.{Passed, Refused as 
 use Rattle.epe.proofs.AcceptedAsStated.{accepted-as-stated}
 use Rattle.epe.proofs.Judging.{two-steps-are-contents}
 use Rattle.epe.proofs.Keeping.{kept-in-order}
-use Rattle.epe.proofs.QuestionLaws.{asked-no, asked-yes, asked-none, asked-refused, asked-passed}
+use Rattle.epe.proofs.QuestionLaws.{asked-no, asked-yes, asked-none, asked-behind, asked-before}
 use Rattle.model.specs.Shipment.{Shipment}
 use Rattle.model.specs.Calls.{Call, Intake, Answer, Refused, Accepted}
 use Rattle.model.specs.Book.{feeFor, Book, stay, isUnknown, rowsIn, enteredRow, newShipment, entered, intakeQuestions, takenIn, step}
@@ -144,7 +144,7 @@ module _ (m : List ℕ) (i : ℕ) (profile : Profile) (name : Name) (file : List
       → DoesEnter (contentsQuestions profile file) (entered profile name (orders file)) (length (orders file)) (faultyCount (orders file)) m (Refused number) m
   unfolding contents
   contents-refused verdict = record {
-    by-call = λ call stepped. stays is-sound (stepped ∙ asked-refused _ _ _ (contentsQuestions profile file) verdict);
+    by-call = λ call stepped. stays is-sound (stepped ∙ asked-before (contentsQuestions profile file) _ _ _ verdict);
   }
 
   -- the records of a file whose header has passed
@@ -188,7 +188,7 @@ module _ (m : List ℕ) (i : ℕ) (profile : Profile) (name : Name) (file : List
       unfolding entered contents
       contents-accepted enters =
           rw (← is-fee, ← passed .1 .0, ← passed .1 .1)
-          (record { by-call = λ call stepped. enters .by-call call (stepped ∙ asked-passed _ _ _ (contentsQuestions profile file) (passed .0) ∙ entered-alike) })
+          (record { by-call = λ call stepped. enters .by-call call (stepped ∙ asked-behind (contentsQuestions profile file) _ _ _ (passed .0) ∙ entered-alike) })
 
 -- the questions before the contents
 module _ (m : List ℕ) (profile : Profile) (name file : List ℕ) where
@@ -211,21 +211,21 @@ module _ (m : List ℕ) (profile : Profile) (name file : List ℕ) where
     module _ (held : soundIn m ≡ true) where
       pub opening-refused : {number : ℕ} → opening name file ≡ No number → Does m call (Refused number) m
       unfolding step takenIn intakeQuestions opening
-      opening-refused refused = stays held (asked-yes 905 _ _ _ fits ∙ asked-refused _ _ _ (openingQuestions name file) refused)
+      opening-refused refused = stays held (asked-yes 905 _ _ _ fits ∙ asked-before (openingQuestions name file) _ _ _ refused)
 
       module _ (passed : opening name file ≡ Passed) where
         -- "Identifier not yet in the book? 101"
         pub known-refused : isUnknown (nameOf name .ident) (bookIn m) ≡ false → Does m call (Refused 101) m
         unfolding step takenIn intakeQuestions opening
         known-refused known =
-            stays held (asked-yes 905 _ _ _ fits ∙ asked-passed _ _ _ (openingQuestions name file) passed ∙ asked-no 101 _ _ _ known)
+            stays held (asked-yes 905 _ _ _ fits ∙ asked-behind (openingQuestions name file) _ _ _ passed ∙ asked-no 101 _ _ _ known)
 
         pub contents-next : isUnknown (nameOf name .ident) (bookIn m) ≡ true
             → step (bookIn m) call
             ≡ enteredIn (contentsQuestions profile file) (entered profile (nameOf name) (orders file)) (length (orders file)) (faultyCount (orders file)) (bookIn m)
         unfolding step takenIn intakeQuestions opening
         contents-next unknown =
-            asked-yes 905 _ _ _ fits ∙ asked-passed _ _ _ (openingQuestions name file) passed ∙ asked-yes 101 _ _ _ unknown
+            asked-yes 905 _ _ _ fits ∙ asked-behind (openingQuestions name file) _ _ _ passed ∙ asked-yes 101 _ _ _ unknown
 
     -- as code has the opening
     module _ (held : soundIn m ≡ true) {opened-file : Opening} (is-opened : opened-file ≡ openingOf name file) where

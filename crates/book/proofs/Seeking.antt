@@ -12,7 +12,7 @@ use Rattle.epe.specs.Name.{titleQuestions, titleOf}
 use Rattle.epe.specs.declared.ident.Ident.{Ident}
 use Rattle.epe.specs.declared.verdict.Verdict.{Verdict}
 use Rattle.epe.specs.declared.verdict.Verdict.the-variants.{Passed, Refused as No}
-use Rattle.epe.proofs.QuestionLaws.{asked-no, asked-yes, asked-none, asked-refused, asked-passed}
+use Rattle.epe.proofs.QuestionLaws.{asked-no, asked-yes, asked-none, asked-behind, asked-before}
 use Rattle.model.specs.Shipment.{Shipment}
 use Rattle.model.specs.Calls.{Act, Transfer, On, Refused, transferred, acted}
 use Rattle.model.specs.Book.{Book, stay, isCalled, sameName, transferredIn, step}
@@ -41,12 +41,12 @@ refused-eleven title h = one-refused _ h
 module _ (title : List ℕ) (amount : ℕ) where
   pub title-refused : isPassed (titleOf title .verdict) ≡ false → (book : Book) → step book (Transfer title amount) ≡ stay (Refused 11) book
   unfolding step transferredIn titleOf
-  title-refused untitled book = asked-refused _ _ _ (titleQuestions title) (refused-eleven title untitled)
+  title-refused untitled book = asked-before (titleQuestions title) _ _ _ (refused-eleven title untitled)
 
   pub amount-refused : isPassed (titleOf title .verdict) ≡ true → isTransfer amount ≡ false → (book : Book) → step book (Transfer title amount) ≡ stay (Refused 12) book
   unfolding step transferredIn titleOf
   amount-refused titled outside book =
-      asked-passed _ _ _ (titleQuestions title) (passed-is (firstNo (titleQuestions title)) titled) ∙ asked-no 12 _ _ _ outside
+      asked-behind (titleQuestions title) _ _ _ (passed-is (firstNo (titleQuestions title)) titled) ∙ asked-no 12 _ _ _ outside
 
   pub seeks-named : isPassed (titleOf title .verdict) ≡ true → isTransfer amount ≡ true
       → Seeks (namedIn (titleOf title .name)) (transferred (titleOf title .money) amount) (Transfer title amount)
@@ -55,6 +55,6 @@ module _ (title : List ℕ) (amount : ℕ) where
     called = λ (s : Shipment). sameName (titleOf title .name) (s .name);
     by-head = λ head rows. refl;
     steps = λ book.
-        asked-passed _ _ _ (titleQuestions title) (passed-is (firstNo (titleQuestions title)) titled) ∙ asked-yes 12 _ _ _ within ∙ asked-none _ _;
+        asked-behind (titleQuestions title) _ _ _ (passed-is (firstNo (titleQuestions title)) titled) ∙ asked-yes 12 _ _ _ within ∙ asked-none _ _;
     unread = refl;
   }

@@ -9,41 +9,40 @@ use Rattle.text.proofs.Branches.{told, told-yes, told-no}
 use Rattle.epe.specs.Questions.{Question, _elseNo_, firstNo, isPassed, asked}
 use Rattle.epe.specs.declared.verdict.Verdict.{Verdict}
 use Rattle.epe.specs.declared.verdict.Verdict.the-variants.{Passed, Refused}
+use Rattle.epe.proofs.QuestionLaws.{asked-no, asked-yes, asked-none, asked-append, asked-passed, asked-refused}
 
-pub ask-no : (answer : Bool) (n : ℕ) (qs : List Question) → answer ≡ false → Refused n ≡ firstNo ((answer elseNo n) ∷ qs)
-unfolding asked
-ask-no answer n qs h = rw h
+module _ {ℓ} {A : Type ℓ} (refused : ℕ → A) (next : A) where
+  pub ask-no : (answer : Bool) (n : ℕ) (qs : List Question) (r : A) → r ≡ refused n → answer ≡ false
+      → r ≡ asked ((answer elseNo n) ∷ qs) refused next
+  ask-no answer n qs r e h = e ∙ sym (asked-no n qs refused next h)
 
-pub ask-yes : (answer : Bool) (n : ℕ) (qs : List Question) (verdict : Verdict) → answer ≡ true → verdict ≡ firstNo qs
-    → verdict ≡ firstNo ((answer elseNo n) ∷ qs)
-unfolding asked
-ask-yes answer n qs verdict h e = rw h e
+  pub ask-yes : (answer : Bool) (n : ℕ) (qs : List Question) (r : A) → answer ≡ true → r ≡ asked qs refused next
+      → r ≡ asked ((answer elseNo n) ∷ qs) refused next
+  ask-yes answer n qs r h e = e ∙ sym (asked-yes n qs refused next h)
 
-pub ask-none : Passed ≡ firstNo []
-unfolding asked
-ask-none = refl
+  pub ask-none : (r : A) → r ≡ next → r ≡ asked [] refused next
+  ask-none r e = e ∙ sym (asked-none refused next)
 
 -- two lists of questions, the second asked where the first passed
-pub join-no : (ps qs : List Question) (verdict : Verdict) → verdict ≡ firstNo ps → isPassed verdict ≡ false → verdict ≡ firstNo (ps ++ qs)
-unfolding asked isPassed
-join-no [] qs verdict e h = absurd (let z = rw e at h in true≢false z)
-join-no (p ∷ ps) qs verdict e h = go (p .yes?) (λ r. join-no ps qs verdict r h) e
-  where
-    go : (t : Bool) → (verdict ≡ firstNo ps → verdict ≡ firstNo (ps ++ qs)) → verdict ≡ cond t (firstNo ps) (Refused (p .number)) → verdict ≡ cond t (firstNo (ps ++ qs)) (Refused (p .number))
-    go true rest e = rest e
-    go false rest e = e
+module _ (ps qs : List Question) (verdict : Verdict) (is-first : verdict ≡ firstNo ps) where
+  pub join-no : isPassed verdict ≡ false → verdict ≡ firstNo (ps ++ qs)
+  unfolding isPassed
+  join-no h = go verdict is-first h
+    where
+      go : (v : Verdict) → v ≡ firstNo ps → isPassed v ≡ false → v ≡ firstNo (ps ++ qs)
+      go Passed e h = absurd (true≢false h)
+      go (Refused n) e h = sym (asked-append ps qs Refused Passed ∙ asked-refused ps Refused (firstNo qs) n (sym e))
 
-pub join-yes : (ps qs : List Question) (verdict : Verdict) → verdict ≡ firstNo ps → isPassed verdict ≡ true → firstNo qs ≡ firstNo (ps ++ qs)
-unfolding asked isPassed
-join-yes [] qs verdict e h = refl
-join-yes (p ∷ ps) qs verdict e h = go (p .yes?) (λ r. join-yes ps qs verdict r h) e
-  where
-    go : (t : Bool) → (verdict ≡ firstNo ps → firstNo qs ≡ firstNo (ps ++ qs)) → verdict ≡ cond t (firstNo ps) (Refused (p .number)) → firstNo qs ≡ cond t (firstNo (ps ++ qs)) (Refused (p .number))
-    go true rest e = rest e
-    go false rest e = absurd (let z = rw e at h in true≢false (sym z))
+  pub join-yes : isPassed verdict ≡ true → firstNo qs ≡ firstNo (ps ++ qs)
+  unfolding isPassed
+  join-yes h = go verdict is-first h
+    where
+      go : (v : Verdict) → v ≡ firstNo ps → isPassed v ≡ true → firstNo qs ≡ firstNo (ps ++ qs)
+      go Passed e h = sym (asked-append ps qs Refused Passed ∙ asked-passed ps Refused (firstNo qs) (sym e))
+      go (Refused n) e h = absurd (true≢false (sym h))
 
 -- a number that is not zero
 pub pos-of-ne : (n : ℕ) → (n ≡ 0 → ⊥) → 0 < n
 pos-of-ne n h = omega arith
 
-pub ruleset asking = (ask-no, ask-yes, ask-none, told-no, told-yes)
+pub ruleset asking = (refl, ask-no, ask-yes, ask-none, told-no, told-yes)

@@ -22,7 +22,7 @@ use Rattle.epe.specs.Profile.{asFees, profileFits, feesFit}
 use Rattle.epe.specs.Name.{nameQuestions}
 use Rattle.epe.specs.File.{marked}
 use Rattle.epe.specs.Opening.{fileQuestions, fixedQuestions, repeatedQuestions, openingQuestions, opening}
-use Rattle.epe.specs.Faults.{sized, empty, placed, housed, postcode, extra, spaced, unspaced, faultQuestions, faultIn, faultOf}
+use Rattle.epe.specs.Faults.{sized, empty, placed, housed, postcode, extra, spaced, unspaced, faultQuestions, faultOf}
 use Rattle.epe.specs.Contents.{dateQuestions, statedQuestions, shaped, allShaped, allPriced, total, recordQuestions, contentsQuestions, contents}
 use Rattle.epe.specs.Contents.{orderOf, orders, faultyCount, judgedOf, linesRead, ordersRead}
 use Rattle.epe.specs.Kept.{orderFrom, ordersIn, keptFrom}
@@ -67,7 +67,7 @@ unfolding ascii tailOctet lead2 lead3 lead4 point2 point3 point4 surrogate range
 opens = opening
 
 holdsOrders : Profile → List ℕ → Verdict
-unfolding opens starts codePoints isAmount groszeOf textOf together inWindow dayNumber daysOfYears daysOfMonths dateOf dateOfNumber dateOfDigits dateInWindow clockTime timeOfNumber timeOfDay profileFits feesFit asFees sized empty placed housed postcode extra spaced unspaced faultQuestions faultIn faultOf dateQuestions statedQuestions shaped allShaped allPriced total recordQuestions contentsQuestions contents orderOf orders faultyCount judgedOf
+unfolding opens starts codePoints isAmount groszeOf textOf together inWindow dayNumber daysOfYears daysOfMonths dateOf dateOfNumber dateOfDigits dateInWindow clockTime timeOfNumber timeOfDay profileFits feesFit asFees sized empty placed housed postcode extra spaced unspaced faultQuestions faultOf dateQuestions statedQuestions shaped allShaped allPriced total recordQuestions contentsQuestions contents orderOf orders faultyCount judgedOf
 holdsOrders = contents
 
 abbrev order : ℕ → ℕ → Order

@@ -8,7 +8,7 @@ use borrow.Author.Tests.{leb-true, le-leb, lt-leb}
 use lib.Dec.{eqb, leb, ltb}
 use lib.ListN.{length, length-map}
 use Rattle.text.specs.Bytes.{between, part}
-use Rattle.text.proofs.Branches.{and-left, and-right}
+use Rattle.text.proofs.Branches.{and-left, and-right, either-way}
 use Rattle.calendar.specs.Calendar.{real}
 use Rattle.epe.specs.Questions.{Question, firstNo, isPassed, asked}
 use Rattle.epe.specs.Contents.{shaped, allShaped, allPriced, total, orderOf, orders, faultyCount, dateQuestions, statedQuestions, recordQuestions, contentsQuestions, contents, judgedOf, linesRead, ordersRead, AcceptedIsRead}
@@ -17,7 +17,7 @@ use Rattle.epe.specs.Profile.{feesFit, profileFits}
 use Rattle.epe.specs.Kept.{keptFrom}
 use Rattle.epe.specs.Steps.{statedBeside, headerQuestions, statedOf, noneKept, Records, keptWhere, judgedRecords, recordsOf, recordsBehind, TwoStepsAreContents}
 use Rattle.epe.specs.Walk.{linesFrom, lineEnd, body}
-use Rattle.epe.specs.Tally.{Tallied, tallyJudged}
+use Rattle.epe.specs.Tally.{Tallied, tallyQuestions, tallyJudged}
 use Rattle.epe.specs.declared.file.Judged.{Judged}
 use Rattle.epe.specs.declared.file.Judged.the-variants.{Accepted, Refused as NotAccepted}
 use Rattle.epe.specs.declared.file.Stated.{Stated}
@@ -27,52 +27,22 @@ use Rattle.epe.specs.declared.verdict.Verdict.{Verdict}
 use Rattle.epe.specs.declared.verdict.Verdict.the-variants.{Passed, Refused}
 use Rattle.epe.specs.declared.profile.Profile.{Profile}
 use Rattle.epe.proofs.Asking.{join-no, join-yes}
-use Rattle.epe.proofs.QuestionLaws.{all-yes, all-yes-passed, yes-before}
+use Rattle.epe.proofs.QuestionLaws.{asked-no, asked-through, all-yes, all-yes-passed, yes-before}
 use Rattle.epe.proofs.Walking.{next-of, header-first, records-after}
 
 -- the four questions of the records, answered by their tally
 pub tally-judges : (fields count sum : ℕ) (lines : List (List ℕ)) (tally : Tally) {before after : List ℕ} → Tallied fields lines tally before after
     → tallyJudged tally count sum ≡ judgedOf (firstNo (recordQuestions fields count sum lines)) (map orderOf lines)
-unfolding tallyJudged judgedOf asked recordQuestions
+unfolding tallyQuestions judgedOf recordQuestions
 tally-judges fields count sum lines tally tallied =
-    rw (← tallied .shape) (shape (tally .shaped) refl)
-  where
-    orders-as-many : length (map orderOf lines) ≡ length lines
-    orders-as-many = length-map lines orderOf
-
-    shape : (t : Bool) → tally .shaped ≡ t
-        → cond t
-        (cond (tally .priced)
-        (cond (eqb (tally .count) count)
-        (cond (eqb (tally .sum) sum) (Accepted (tally .count) (tally .faulty)) (NotAccepted 132))
-        (NotAccepted 129))
-        (NotAccepted 902))
-        (NotAccepted 901)
-        ≡ judgedOf
-        (cond t
-        (cond (allPriced lines)
-        (cond (eqb (length lines) count)
-        (cond (eqb (total lines) sum) Passed (Refused 132))
-        (Refused 129))
-        (Refused 902))
-        (Refused 901))
-        (map orderOf lines)
-    shape false h = refl
-    shape true h =
-        rw (tallied .prices h, tallied .counted h, tallied .summed h, tallied .faults h, ← orders-as-many)
-        (rest (allPriced lines) (eqb (length (map orderOf lines)) count) (eqb (total lines) sum))
-      where
-        rest : (priced counted summed : Bool)
-            → cond priced
-            (cond counted
-            (cond summed (Accepted (length (map orderOf lines)) (faultyCount (map orderOf lines))) (NotAccepted 132))
-            (NotAccepted 129))
-            (NotAccepted 902)
-            ≡ judgedOf (cond priced (cond counted (cond summed Passed (Refused 132)) (Refused 129)) (Refused 902)) (map orderOf lines)
-        rest true true true = refl
-        rest true true false = refl
-        rest true false summed = refl
-        rest false counted summed = refl
+    let asking = recordQuestions fields count sum lines in
+    let told = asked-through (λ (v : Verdict). judgedOf v (map orderOf lines)) asking Refused Passed
+    ∙ ap (λ (n : ℕ). asked asking NotAccepted (Accepted n (faultyCount (map orderOf lines)))) (length-map lines orderOf) in
+    either-way (tally .shaped)
+    (λ (shaped : tally .shaped ≡ true).
+    rw (tallied .shape, tallied .prices shaped, tallied .counted shaped, tallied .summed shaped, tallied .faults shaped) (sym told))
+    (λ (misshaped : tally .shaped ≡ false).
+    asked-no 901 _ NotAccepted _ misshaped ∙ sym (asked-no 901 _ NotAccepted _ (sym (tallied .shape) ∙ misshaped)) ∙ sym told)
 
 -- questions behind others that passed
 pub judged-after : (ps qs : List Question) (os : List Order) → firstNo ps ≡ Passed → judgedOf (firstNo qs) os ≡ judgedOf (firstNo (ps ++ qs)) os

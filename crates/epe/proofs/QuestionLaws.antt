@@ -3,18 +3,21 @@
 --     asked-no, asked-yes        what comes of the first question, whatever is asked and whatever comes of it
 --     asked-none, asked-append   no question, and questions behind others
 --     asked-either               what holds of every refusal, and of what comes next where all are answered yes, holds of what is asked
---     asked-refused, asked-passed  what comes of questions whose verdict is known, with others behind them
---     none-asked, next           the verdict of a function that asks its questions in order, a `next` for each
+--     asked-passed, asked-refused   the same by a verdict that is known, whatever comes of the questions
+--     asked-behind, asked-before    and with other questions behind them
+--     asked-through              what a function makes of it
 -- Assumes nothing.
-use mathlib.Core.Path.{_≡_, refl, sym, _∙_, ap}
+use mathlib.Core.Path.{_≡_, refl, sym, ap, _∙_}
 use mathlib.Core.Bool.{Bool, true, false, cond}
 use mathlib.Core.List.{List, [], _∷_, _++_}
 use Prim.Native.Nat.{ℕ}
 use native.Mathlib.Omega.{arith}
 use Rattle.text.proofs.Branches.{either-way}
-use Rattle.epe.specs.Questions.{Question, _elseNo_, AllYes, firstNo, askedNext, RefusedBy, AcceptedIsAllYes, RefusedIsFirstNo, asked}
-use Rattle.epe.specs.declared.verdict.Verdict.{Verdict}
+use Rattle.epe.specs.Questions.{Question, _elseNo_, AllYes, firstNo, RefusedBy, AcceptedIsAllYes, RefusedIsFirstNo, asked}
 use Rattle.epe.specs.declared.verdict.Verdict.the-variants.{Passed, Refused}
+
+never : {n : ℕ} → Refused n ≡ Passed → ⊥
+never h = let apart : _≡_ {A = ℕ} 0 1 = cc in omega arith
 
 -- What comes of questions, whatever is refused and whatever comes next.
 module _ {ℓ} {A : Type ℓ} where
@@ -49,8 +52,45 @@ module _ {ℓ} {A : Type ℓ} where
       go true rest = rest refl
       go false rest = if-refused (q .number)
 
-never : {n : ℕ} → Refused n ≡ Passed → ⊥
-never h = let apart : _≡_ {A = ℕ} 0 1 = cc in omega arith
+  -- of a verdict on the questions
+  pub asked-passed : (qs : List Question) (refused : ℕ → A) (next : A) → firstNo qs ≡ Passed → asked qs refused next ≡ next
+  unfolding asked
+  asked-passed [] refused next h = refl
+  asked-passed (q ∷ qs) refused next h = go (q .yes?) (asked-passed qs refused next) h
+    where
+      go : (t : Bool) → (firstNo qs ≡ Passed → asked qs refused next ≡ next) → cond t (firstNo qs) (Refused (q .number)) ≡ Passed
+          → cond t (asked qs refused next) (refused (q .number)) ≡ next
+      go true rest h = rest h
+      go false rest h = absurd (never h)
+
+  pub asked-refused : (qs : List Question) (refused : ℕ → A) (next : A) (n : ℕ) → firstNo qs ≡ Refused n → asked qs refused next ≡ refused n
+  unfolding asked
+  asked-refused [] refused next n h = absurd (never (sym h))
+  asked-refused (q ∷ qs) refused next n h = go (q .yes?) (asked-refused qs refused next n) h
+    where
+      go : (t : Bool) → (firstNo qs ≡ Refused n → asked qs refused next ≡ refused n) → cond t (firstNo qs) (Refused (q .number)) ≡ Refused n
+          → cond t (asked qs refused next) (refused (q .number)) ≡ refused n
+      go true rest h = rest h
+      go false rest h = let own : q .number ≡ n = cc in ap refused own
+
+  -- with other questions behind them
+  pub asked-behind : (ps qs : List Question) (refused : ℕ → A) (next : A) → firstNo ps ≡ Passed → asked (ps ++ qs) refused next ≡ asked qs refused next
+  asked-behind ps qs refused next h = asked-append ps qs refused next ∙ asked-passed ps refused (asked qs refused next) h
+
+  pub asked-before : (ps qs : List Question) (refused : ℕ → A) (next : A) {n : ℕ} → firstNo ps ≡ Refused n → asked (ps ++ qs) refused next ≡ refused n
+  asked-before ps qs refused next {n} h = asked-append ps qs refused next ∙ asked-refused ps refused (asked qs refused next) n h
+
+-- what a function makes of what comes of questions
+pub asked-through {ℓ m} : {A : Type ℓ} {B : Type m} (f : A → B) (qs : List Question) (refused : ℕ → A) (next : A)
+    → f (asked qs refused next) ≡ asked qs (λ n. f (refused n)) (f next)
+unfolding asked
+asked-through f [] refused next = refl
+asked-through {A = A} {B = B} f (q ∷ qs) refused next = go (q .yes?) (asked-through f qs refused next)
+  where
+    go : (t : Bool) → f (asked qs refused next) ≡ asked qs (λ n. f (refused n)) (f next)
+        → f (cond t (asked qs refused next) (refused (q .number))) ≡ cond t (asked qs (λ n. f (refused n)) (f next)) (f (refused (q .number)))
+    go true rest = rest
+    go false rest = refl
 
 pub all-yes : AcceptedIsAllYes
 unfolding asked
@@ -64,26 +104,6 @@ pub all-yes-passed : (qs : List Question) → AllYes qs → firstNo qs ≡ Passe
 unfolding asked
 all-yes-passed [] h = refl
 all-yes-passed (q ∷ qs) h = rw (h .0) (all-yes-passed qs (h .1))
-
--- what comes of questions whose verdict is known, with others behind them
-module _ {ℓ} {A : Type ℓ} (rest : List Question) (refused : ℕ → A) (next : A) where
-  pub asked-refused : (qs : List Question) {n : ℕ} → firstNo qs ≡ Refused n → asked (qs ++ rest) refused next ≡ refused n
-  unfolding asked
-  asked-refused [] verdict = absurd (never (sym verdict))
-  asked-refused (q ∷ qs) {n} verdict = go (q .yes?) (asked-refused qs) verdict
-    where
-      go : (t : Bool) → (firstNo qs ≡ Refused n → asked (qs ++ rest) refused next ≡ refused n) → cond t (firstNo qs) (Refused (q .number)) ≡ Refused n
-          → cond t (asked (qs ++ rest) refused next) (refused (q .number)) ≡ refused n
-      go true later e = later e
-      go false later e = cc
-
-  asked-all : (qs : List Question) → AllYes qs → asked (qs ++ rest) refused next ≡ asked rest refused next
-  unfolding asked
-  asked-all [] h = refl
-  asked-all (q ∷ qs) h = rw (h .0) (asked-all qs (h .1))
-
-  pub asked-passed : (qs : List Question) → firstNo qs ≡ Passed → asked (qs ++ rest) refused next ≡ asked rest refused next
-  asked-passed qs verdict = asked-all qs (all-yes qs verdict)
 
 -- the parts of a list of which all are answered yes
 pub yes-before : (ps qs : List Question) → AllYes (ps ++ qs) → AllYes ps
@@ -115,23 +135,3 @@ refused-by (q ∷ qs) n refused =
     (λ (refusing : q .yes? ≡ false).
     let own : Refused (q .number) ≡ Refused n = rw refusing at refused in
     record { earlier = []; asked = q; later = qs; in-order = refl; earlier-yes = tt; asked-no = refusing; its-number = cc })
-
--- What has been asked so far, and the verdict on it.
-pub record Asked (ps : List Question) (v : Verdict) : Type 0 where
-  pub verdict : v ≡ firstNo ps
-
-pub none-asked : Asked [] Passed
-unfolding asked
-none-asked = record { verdict = refl }
-
--- one question more
-one-more : (ps : List Question) (t : Bool) (n : ℕ) → askedNext (firstNo ps) t n ≡ firstNo (ps ++ ((t elseNo n) ∷ []))
-unfolding asked askedNext
-one-more [] t n = refl
-one-more (p ∷ ps) t n =
-    either-way (p .yes?)
-    (λ (said : p .yes? ≡ true). rw said (one-more ps t n))
-    (λ (refusing : p .yes? ≡ false). rw refusing)
-
-pub next : (n : ℕ) {ps : List Question} {v w : Verdict} {r t : Bool} → Asked ps v → w ≡ askedNext v r n → r ≡ t → Asked (ps ++ ((t elseNo n) ∷ [])) w
-next n {ps} {t = t} before e answer = record { verdict = e ∙ rw (before .verdict, answer) (one-more ps t n) }

@@ -2,23 +2,21 @@
 -- Assumes nothing.
 use mathlib.Core.Path.{_≡_, refl}
 use mathlib.Core.Bool.{Bool, true, false, cond, _&&_}
-use mathlib.Core.List.{List, [], _∷_}
+use mathlib.Core.List.{List}
 use Prim.Native.Nat.{ℕ, zero, suc, _+_, _-_, _<_, _≤_}
 use native.Mathlib.Omega.{arith}
 use borrow.Author.Tests.{leb-true, le-leb}
 use lib.Dec.{leb, lit≤}
 use lib.ListN.{length, take, List·getD-eq-default}
 use Rattle.text.specs.Utf8.{codePoints}
-use Rattle.text.proofs.Branches.{and-left, and-right, told-no, told-yes}
+use Rattle.text.proofs.Branches.{and-left, and-right}
 use Rattle.text.proofs.Utf8Counting.{first-counts, counts-at-most}
 use Rattle.epe.specs.File.{field}
-use Rattle.epe.specs.Questions.{Question, _elseNo_, firstNo, asked}
-use Rattle.epe.specs.Faults.{sized, spaced, unspaced, faultQuestions, faultIn, faultOf}
+use Rattle.epe.specs.Questions.{asked}
+use Rattle.epe.specs.Faults.{sized, spaced, unspaced, faultQuestions, faultOf}
 use Rattle.epe.specs.Contents.{shaped}
 use Rattle.epe.specs.Tally.{RecordOf}
 use Rattle.epe.specs.declared.record.RecordRead.{RecordRead}
-use Rattle.epe.specs.declared.verdict.Verdict.{Verdict}
-use Rattle.epe.specs.declared.verdict.Verdict.the-variants.{Refused}
 
 -- what holds of the first byte's count and of the number of bytes holds of the count between them
 pub sized-by-bytes : (low high : ℕ) (s : List ℕ) → (leb low (codePoints (take 1 s)) && leb (length s) high) ≡ true → sized low high s ≡ true
@@ -56,31 +54,14 @@ unfolding unspaced
 unspaced-end zero from line h = refl
 unspaced-end (suc n) from line h = absurd (omega arith)
 
--- A question answered no gives its number; one answered yes leaves the fault to those behind it.
-module _ (yes : Bool) (n : ℕ) (qs : List Question) where
-  pub fault-here : yes ≡ false → n ≡ faultIn (firstNo ((yes elseNo n) ∷ qs))
-  unfolding faultIn asked
-  fault-here h = rw h
-
-  pub fault-later : (r : ℕ) → yes ≡ true → r ≡ faultIn (firstNo qs) → r ≡ faultIn (firstNo ((yes elseNo n) ∷ qs))
-  unfolding asked
-  fault-later r h e = rw h e
-
-pub no-fault : 0 ≡ faultIn (firstNo [])
-unfolding faultIn asked
-no-fault = refl
-
--- `search faults depth 12` closes the returns of a function that asks questions in a definition's order.
-pub ruleset faults = (told-no, told-yes, fault-here, fault-later, no-fault)
-
 -- A fault's number is at most that of the last question.
 pub fault-known : (line : List ℕ) → faultOf line ≤ 10
-unfolding faultOf faultIn asked faultQuestions
+unfolding faultOf asked faultQuestions
 fault-known line = search (known, lit≤) depth 30
   where
-    known : (t : Bool) (v : Verdict) (n : ℕ) → faultIn v ≤ 10 → n ≤ 10 → faultIn (cond t v (Refused n)) ≤ 10
-    known true v n h l = h
-    known false v n h l = l
+    known : (t : Bool) (later n : ℕ) → later ≤ 10 → n ≤ 10 → cond t later n ≤ 10
+    known true later n h l = h
+    known false later n h l = l
 
 -- What `read_record` says of a line's shape, where a profile allows the number of fields.
 pub shape-of : {r n : ℕ} {line : List ℕ} {read : RecordRead} → RecordOf r n line read → r ≤ 32 → read .shaped ≡ shaped r n line

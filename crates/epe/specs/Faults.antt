@@ -8,10 +8,8 @@ use Rattle.text.specs.Bytes.{between, same}
 use Rattle.text.specs.Quoted.{bytes}
 use Rattle.text.specs.Utf8.{codePoints}
 use Rattle.text.specs.Number.{number, isNumber}
-use Rattle.epe.specs.Questions.{Question, _elseNo_, firstNo}
+use Rattle.epe.specs.Questions.{Question, _elseNo_, asked}
 use Rattle.epe.specs.File.{field}
-use Rattle.epe.specs.declared.verdict.Verdict.{Verdict}
-use Rattle.epe.specs.declared.verdict.Verdict.the-variants.{Passed, Refused}
 
 -- "Lengths count code points, not bytes." From low to high of them.
 unfoldable pub sized : ℕ → ℕ → List ℕ → Bool
@@ -73,9 +71,8 @@ faultQuestions line =
     ∷ []
 
 -- The number of the first fault; 0 for an order without one.
-unfoldable pub faultIn : Verdict → ℕ
-faultIn Passed = 0
-faultIn (Refused n) = n
+abbrev pub firstFault : List Question → ℕ
+firstFault qs = asked qs (λ n. n) 0
 
 unfoldable pub faultOf : List ℕ → ℕ
-faultOf line = faultIn (firstNo (faultQuestions line))
+faultOf line = firstFault (faultQuestions line)

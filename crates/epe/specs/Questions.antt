@@ -23,11 +23,6 @@ asked (q ∷ qs) refused next = cond (q .yes?) (asked qs refused next) (refused 
 abbrev pub firstNo : List Question → Verdict
 firstNo qs = asked qs Refused Passed
 
--- One question more after a verdict: an earlier "no" stays.
-unfoldable pub askedNext : Verdict → Bool → ℕ → Verdict
-askedNext Passed answer n = cond answer Passed (Refused n)
-askedNext (Refused earlier) answer n = Refused earlier
-
 unfoldable pub isPassed : Verdict → Bool
 isPassed Passed = true
 isPassed (Refused n) = false

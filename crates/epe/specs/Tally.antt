@@ -1,10 +1,11 @@
 -- What one look at a record line tells, and the tally that a walk over the records keeps.
 use mathlib.Core.Path.{_≡_}
 use mathlib.Core.Bool.{true, cond, _&&_}
-use mathlib.Core.List.{List, map}
+use mathlib.Core.List.{List, [], _∷_, map}
 use Prim.Native.Nat.{ℕ, _+_, _*_, _^_, _≤_}
 use lib.Dec.{eqb, leb, ltb}
 use lib.ListN.{length}
+use Rattle.epe.specs.Questions.{Question, _elseNo_, asked}
 use Rattle.epe.specs.Contents.{shaped, allShaped, allPriced, total, orderOf, faultyCount, linesRead}
 use Rattle.epe.specs.Kept.{keptFrom}
 use Rattle.money.specs.Money.{WithinOrder}
@@ -48,12 +49,13 @@ pub record SmallTally (tally : Tally) (order : Order) : Type 0 where
   pub bounded : WithinOrder (order .amount .0)
 
 -- What a tally comes to beside what the header states: the questions 901, 902, 129, 132.
-unfoldable pub tallyJudged : Tally → ℕ → ℕ → Judged
-tallyJudged tally count sum =
-    cond (tally .shaped)
-    (cond (tally .priced)
-    (cond (eqb (tally .count) count)
-    (cond (eqb (tally .sum) sum) (Accepted (tally .count) (tally .faulty)) (NotAccepted 132))
-    (NotAccepted 129))
-    (NotAccepted 902))
-    (NotAccepted 901)
+unfoldable pub tallyQuestions : Tally → ℕ → ℕ → List Question
+tallyQuestions tally count sum =
+    (tally .shaped elseNo 901)
+    ∷ (tally .priced elseNo 902)
+    ∷ (eqb (tally .count) count elseNo 129)
+    ∷ (eqb (tally .sum) sum elseNo 132)
+    ∷ []
+
+abbrev pub tallyJudged : Tally → ℕ → ℕ → Judged
+tallyJudged tally count sum = asked (tallyQuestions tally count sum) NotAccepted (Accepted (tally .count) (tally .faulty))

@@ -22,6 +22,7 @@ ghost use Rattle.epe.specs.Opening.{fixedQuestions, repeatedQuestions};
 ghost use Rattle.epe.specs.Contents.{dateQuestions, statedQuestions, statedCount, statedSum};
 use crate::line::field_of;
 use crate::line::has_fields;
+use crate::name::part_of;
 use crate::refusals;
 use crate::verdict::Verdict;
 use calendar::date::Date;
@@ -45,7 +46,7 @@ fn name_part(name: &[u8], n: usize) -> &[u8]
 {
     let mut table = [0usize; 4];
     let count = text::fields::cut(name, b'-', &mut table);
-    text::fields::field(name, &table, count, n - 1)
+    part_of(name, &table, count, n)
 }
 
 // Does field n have just these bytes?

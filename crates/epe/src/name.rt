@@ -1,22 +1,24 @@
 // The name of an order file, and the title of a transfer.
 ghost use mathlib.Core.Path.{_≡_};
 ghost use mathlib.Core.Bool.{cond, _&&_, _||_};
-ghost use Prim.Native.Nat.{_+_, _-_};
-ghost use lib.Dec.{leb};
-ghost use lib.ListN.{length, take};
+ghost use Prim.Native.Nat.{_-_, _≤_};
+ghost use lib.Dec.{eqb, leb};
+ghost use lib.ListN.{length, getD, take};
 ghost use Rattle.text.specs.Bytes.{same};
 ghost use Rattle.text.specs.Quoted.{bytes};
 ghost use Rattle.text.specs.Number.{number, isNumber, valueOf};
+ghost use Rattle.text.specs.Fields.{fields};
 ghost use Rattle.calendar.specs.Calendar.{real};
 ghost use Rattle.money.specs.declared.Money.the-variants.{K, O};
 ghost use Rattle.epe.specs.Questions.{firstNo, isPassed};
-ghost use Rattle.epe.specs.Name.{nameQuestions, nameOf, titleOf};
+ghost use Rattle.epe.specs.Ident.{identifier};
+ghost use Rattle.epe.specs.Name.{namePart, nameIdent, nameDate, nameQuestions, nameOf, titleName, titleEnding, titleQuestions, titleOf};
+ghost use Rattle.epe.specs.Cut.{PartsCut};
 use crate::ident::Ident;
 use crate::ident::ident_of;
 use crate::ident::is_identifier;
 use crate::refusals;
 use crate::verdict::Verdict;
-use crate::verdict::ask;
 use crate::verdict::is_passed;
 use calendar::date::Date;
 use calendar::date::is_real;
@@ -48,6 +50,78 @@ pub struct Title {
     pub money: Money,
 }
 
+// The first question of a name that is answered no.
+pub fn judge_name(name: &[u8]) -> Verdict
+    ensures { λ r. ⌜ r ≡ firstNo (nameQuestions (now (name .entry))) ⌝ }
+{
+    let mut table = [0usize; 4];
+    let count = cut(name, HYPHEN, &mut table);
+    if !has_parts(name, &table, count) {
+        return Verdict::Refused(refusals::NAME_HYPHENS);
+    }
+    if !starts_epe(name) {
+        return Verdict::Refused(refusals::NAME_EPE);
+    }
+    if !has_z(name) {
+        return Verdict::Refused(refusals::NAME_Z);
+    }
+    if !has_identifier(name, &table, count) {
+        return Verdict::Refused(refusals::NAME_IDENTIFIER);
+    }
+    if !has_date(name, &table, count) {
+        return Verdict::Refused(refusals::NAME_DATE);
+    }
+    if !has_payment(name, &table, count) {
+        return Verdict::Refused(refusals::NAME_PAYMENT);
+    }
+    if !has_kind(name, &table, count) {
+        return Verdict::Refused(refusals::NAME_KIND);
+    }
+    Verdict::Passed
+}
+
+// The parts of a name, as far as it has them.
+pub fn name_of(name: &[u8]) -> Name
+    ensures { λ r. ⌜ r ≡ nameOf (now (name .entry)) ⌝ }
+{
+    let mut table = [0usize; 4];
+    let count = cut(name, HYPHEN, &mut table);
+    Name {
+        ident: ident_of(identifier_in(name, &table, count)),
+        date: date_in(name, &table, count),
+        payment: byte_at(part_of(name, &table, count, 3), 0),
+        kind: kind_in(name, &table, count),
+    }
+}
+
+// What a title says: whether it is one, the name and the money.
+pub fn read_title(title: &[u8]) -> Title
+    ensures { λ r. ⌜ r ≡ titleOf (now (title .entry)) ⌝ }
+{
+    Title {
+        verdict: judge_title(title),
+        name: name_of(title_name(title)),
+        money: money_of(title_ending(title)),
+    }
+}
+
+// Has the name four parts, and so three hyphens?
+fn has_parts(name: &[u8], table: &[usize], count: usize) -> bool
+    requires { ⌜ PartsCut (now name) (now table) count ⌝ }
+    ensures { λ r. ⌜ r ≡ eqb (length (fields 0x2D (now (name .entry)))) 4 ⌝ }
+{
+    count == 3
+}
+
+// Part n of a name, counted from 1.
+pub fn part_of<'a, 'b>(name: &'a [u8], table: &'b [usize], count: usize, n: usize) -> &'a [u8]
+    requires { ⌜ PartsCut (now name) (now table) count ⌝ }
+    requires { ⌜ (1 ≤ n) × (n ≤ 4) ⌝ }
+    ensures { λ r. ⌜ now r ≡ namePart n (now (name .entry)) ⌝ }
+{
+    field(name, table, count, n - 1)
+}
+
 // Does the name start EPE?
 fn starts_epe(name: &[u8]) -> bool
     ensures { λ r. ⌜ r ≡ same (take 3 (now (name .entry))) (bytes "EPE") ⌝ }
@@ -55,82 +129,103 @@ fn starts_epe(name: &[u8]) -> bool
     equal(first(name, 3), b"EPE")
 }
 
-// The date 20yymmdd of a name's second part.
-fn date_of(part: &[u8]) -> Date
-    ensures { λ r. ⌜ r .0 ≡ 20000000 + valueOf (number 6 6 (now (part .entry))) ⌝ }
+// Has it a Z then?
+fn has_z(name: &[u8]) -> bool
+    ensures { λ r. ⌜ r ≡ eqb (getD (now (name .entry)) 3 0) 0x5A ⌝ }
 {
-    let yymmdd = value_of(read(part, 6, 6));
+    byte_at(name, 3) == b'Z'
+}
+
+// The rest of its first part, behind EPEZ.
+fn identifier_in<'a, 'b>(name: &'a [u8], table: &'b [usize], count: usize) -> &'a [u8]
+    requires { ⌜ PartsCut (now name) (now table) count ⌝ }
+    ensures { λ r. ⌜ now r ≡ nameIdent (now (name .entry)) ⌝ }
+{
+    rest(part_of(name, table, count, 1), 4)
+}
+
+// Is that an identifier?
+fn has_identifier(name: &[u8], table: &[usize], count: usize) -> bool
+    requires { ⌜ PartsCut (now name) (now table) count ⌝ }
+    ensures { λ r. ⌜ r ≡ identifier (nameIdent (now (name .entry))) ⌝ }
+{
+    is_identifier(identifier_in(name, table, count))
+}
+
+// The date 20yymmdd of its second part.
+fn date_in(name: &[u8], table: &[usize], count: usize) -> Date
+    requires { ⌜ PartsCut (now name) (now table) count ⌝ }
+    ensures { λ r. ⌜ r .0 ≡ nameDate (now (name .entry)) ⌝ }
+{
+    let yymmdd = value_of(read(part_of(name, table, count, 2), 6, 6));
     Date(20_000_000 + yymmdd)
 }
 
-// Is the part six digits, a real date 20yymmdd?
-fn is_date(part: &[u8]) -> bool
-    ensures { λ r. ⌜ r ≡ (isNumber (number 6 6 (now (part .entry))) && real (20000000 + valueOf (number 6 6 (now (part .entry))))) ⌝ }
+// Is its second part six digits, a real date 20yymmdd?
+fn has_date(name: &[u8], table: &[usize], count: usize) -> bool
+    requires { ⌜ PartsCut (now name) (now table) count ⌝ }
+    ensures { λ r. ⌜ r ≡ (isNumber (number 6 6 (namePart 2 (now (name .entry)))) && real (nameDate (now (name .entry)))) ⌝ }
 {
-    is_number(read(part, 6, 6)) && is_real(date_of(part))
+    is_number(read(part_of(name, table, count, 2), 6, 6)) && is_real(date_in(name, table, count))
 }
 
-// Is the part A or B?
-fn is_payment(part: &[u8]) -> bool
-    ensures { λ r. ⌜ r ≡ (same (now (part .entry)) (bytes "A") || same (now (part .entry)) (bytes "B")) ⌝ }
+// Is its third part A or B?
+fn has_payment(name: &[u8], table: &[usize], count: usize) -> bool
+    requires { ⌜ PartsCut (now name) (now table) count ⌝ }
+    ensures { λ r. ⌜ r ≡ (same (namePart 3 (now (name .entry))) (bytes "A") || same (namePart 3 (now (name .entry))) (bytes "B")) ⌝ }
 {
+    let part = part_of(name, table, count, 3);
     equal(part, b"A") || equal(part, b"B")
 }
 
-// The one digit of a name's fourth part.
-fn kind_of(part: &[u8]) -> u64
-    ensures { λ r. ⌜ r ≡ valueOf (number 1 1 (now (part .entry))) ⌝ }
+// The one digit of its fourth part.
+fn kind_in(name: &[u8], table: &[usize], count: usize) -> u64
+    requires { ⌜ PartsCut (now name) (now table) count ⌝ }
+    ensures { λ r. ⌜ r ≡ valueOf (number 1 1 (namePart 4 (now (name .entry)))) ⌝ }
 {
-    value_of(read(part, 1, 1))
+    value_of(read(part_of(name, table, count, 4), 1, 1))
 }
 
-// Is the part one digit 0 to 4?
-fn is_kind(part: &[u8]) -> bool
-    ensures { λ r. ⌜ r ≡ (isNumber (number 1 1 (now (part .entry))) && leb (valueOf (number 1 1 (now (part .entry)))) 4) ⌝ }
+// Is its fourth part one digit 0 to 4?
+fn has_kind(name: &[u8], table: &[usize], count: usize) -> bool
+    requires { ⌜ PartsCut (now name) (now table) count ⌝ }
+    ensures { λ r. ⌜ r ≡ (isNumber (number 1 1 (namePart 4 (now (name .entry)))) && leb (valueOf (number 1 1 (namePart 4 (now (name .entry))))) 4) ⌝ }
 {
-    is_number(read(part, 1, 1)) && kind_of(part) <= 4
+    is_number(read(part_of(name, table, count, 4), 1, 1)) && kind_in(name, table, count) <= 4
 }
 
-// The first question of a name that is answered no.
-pub fn judge_name(name: &[u8]) -> Verdict
-    ensures { λ r. ⌜ r ≡ firstNo (nameQuestions (now (name .entry))) ⌝ }
+// The question of a title.
+fn judge_title(title: &[u8]) -> Verdict
+    ensures { λ r. ⌜ r ≡ firstNo (titleQuestions (now (title .entry))) ⌝ }
 {
-    let mut places = [0usize; 4];
-    let count = cut(name, HYPHEN, &mut places);
-    let hyphens = &places[..];
-    let verdict = ask(Verdict::Passed, count == 3, refusals::NAME_HYPHENS);
-    let verdict = ask(verdict, starts_epe(name), refusals::NAME_EPE);
-    let verdict = ask(verdict, byte_at(name, 3) == b'Z', refusals::NAME_Z);
-    let ident = rest(field(name, hyphens, count, 0), 4);
-    let verdict = ask(verdict, is_identifier(ident), refusals::NAME_IDENTIFIER);
-    let date = field(name, hyphens, count, 1);
-    let verdict = ask(verdict, is_date(date), refusals::NAME_DATE);
-    let payment = field(name, hyphens, count, 2);
-    let verdict = ask(verdict, is_payment(payment), refusals::NAME_PAYMENT);
-    let kind = field(name, hyphens, count, 3);
-    ask(verdict, is_kind(kind), refusals::NAME_KIND)
-}
-
-// The parts of a name, as far as it has them.
-pub fn name_of(name: &[u8]) -> Name
-    ensures { λ r. ⌜ r ≡ nameOf (now (name .entry)) ⌝ }
-{
-    let mut places = [0usize; 4];
-    let count = cut(name, HYPHEN, &mut places);
-    let hyphens = &places[..];
-    let ident = ident_of(rest(field(name, hyphens, count, 0), 4));
-    let date = date_of(field(name, hyphens, count, 1));
-    let payment = byte_at(field(name, hyphens, count, 2), 0);
-    let kind = kind_of(field(name, hyphens, count, 3));
-    Name {
-        ident,
-        date,
-        payment,
-        kind,
+    if !is_title(title) {
+        return Verdict::Refused(refusals::TITLE);
     }
+    Verdict::Passed
 }
 
-// Where the ending of a title starts: two bytes before its end.
+// Is it a name, and then `-K` or `-O`?
+fn is_title(title: &[u8]) -> bool
+    ensures { λ r. ⌜ r ≡ (isPassed (firstNo (nameQuestions (titleName (now (title .entry))))) && (same (titleEnding (now (title .entry))) (bytes "-K") || same (titleEnding (now (title .entry))) (bytes "-O"))) ⌝ }
+{
+    is_passed(judge_name(title_name(title))) && is_ending(title_ending(title))
+}
+
+// What stands before a title's ending.
+fn title_name(title: &[u8]) -> &[u8]
+    ensures { λ r. ⌜ now r ≡ titleName (now (title .entry)) ⌝ }
+{
+    first(title, ending_at(title))
+}
+
+// The ending of a title: its last two bytes.
+fn title_ending(title: &[u8]) -> &[u8]
+    ensures { λ r. ⌜ now r ≡ titleEnding (now (title .entry)) ⌝ }
+{
+    rest(title, ending_at(title))
+}
+
+// Where the ending of a title starts.
 fn ending_at(title: &[u8]) -> usize
     ensures { λ r. ⌜ r ≡ length (now (title .entry)) - 2 ⌝ }
 {
@@ -141,14 +236,14 @@ fn ending_at(title: &[u8]) -> usize
     n - 2
 }
 
-// Is the ending of a title `-K` or `-O`?
+// Is an ending `-K` or `-O`?
 fn is_ending(ending: &[u8]) -> bool
     ensures { λ r. ⌜ r ≡ (same (now (ending .entry)) (bytes "-K") || same (now (ending .entry)) (bytes "-O")) ⌝ }
 {
     equal(ending, b"-K") || equal(ending, b"-O")
 }
 
-// The money that the ending of a title names.
+// The money that an ending names.
 fn money_of(ending: &[u8]) -> Money
     ensures { λ r. ⌜ r ≡ cond (same (now (ending .entry)) (bytes "-K")) K O ⌝ }
 {
@@ -156,28 +251,4 @@ fn money_of(ending: &[u8]) -> Money
         return Money::K;
     }
     Money::O
-}
-
-// Are a name and an ending those of a title?
-fn is_title(name: &[u8], ending: &[u8]) -> bool
-    ensures { λ r. ⌜ r ≡ (isPassed (firstNo (nameQuestions (now (name .entry)))) && (same (now (ending .entry)) (bytes "-K") || same (now (ending .entry)) (bytes "-O"))) ⌝ }
-{
-    is_passed(judge_name(name)) && is_ending(ending)
-}
-
-// What a title says: whether it is one, the name and the money.
-pub fn read_title(title: &[u8]) -> Title
-    ensures { λ r. ⌜ r ≡ titleOf (now (title .entry)) ⌝ }
-{
-    let at = ending_at(title);
-    let name = first(title, at);
-    let ending = rest(title, at);
-    let verdict = ask(Verdict::Passed, is_title(name, ending), refusals::TITLE);
-    let parts = name_of(name);
-    let money = money_of(ending);
-    Title {
-        verdict,
-        name: parts,
-        money,
-    }
 }

@@ -11,8 +11,7 @@ ghost use Rattle.text.specs.Utf8.{codePoints};
 ghost use Rattle.money.specs.Money.{WithinOrder};
 ghost use Rattle.epe.specs.File.{field};
 ghost use Rattle.epe.specs.Cut.{CutOf};
-ghost use Rattle.epe.specs.Questions.{firstNo};
-ghost use Rattle.epe.specs.Faults.{sized, empty, postcode, extra, placed, housed, spaced, unspaced, faultQuestions, faultIn, faultOf};
+ghost use Rattle.epe.specs.Faults.{sized, empty, postcode, extra, placed, housed, spaced, unspaced, faultQuestions, firstFault, faultOf};
 ghost use Rattle.epe.specs.Contents.{shaped, amountIn, orderOf};
 ghost use Rattle.epe.specs.Tally.{RecordOf};
 use crate::line::BAR;
@@ -239,7 +238,7 @@ fn may_have_extra(line: &[u8], table: &[usize], count: usize) -> bool
 // The first fault from the eighth on.
 fn benefit_fault(line: &[u8], table: &[usize], count: usize) -> u64
     requires { ⌜ CutOf (now line) (now table) count ⌝ }
-    ensures { λ r. ⌜ r ≡ faultIn (firstNo (drop 7 (faultQuestions (now (line .entry))))) ⌝ }
+    ensures { λ r. ⌜ r ≡ firstFault (drop 7 (faultQuestions (now (line .entry)))) ⌝ }
 {
     if !has_size(line, table, count, 14, 1, 20) {
         return BENEFIT;
@@ -256,7 +255,7 @@ fn benefit_fault(line: &[u8], table: &[usize], count: usize) -> u64
 // The first fault from the fifth on.
 fn address_fault(line: &[u8], table: &[usize], count: usize) -> u64
     requires { ⌜ CutOf (now line) (now table) count ⌝ }
-    ensures { λ r. ⌜ r ≡ faultIn (firstNo (drop 4 (faultQuestions (now (line .entry))))) ⌝ }
+    ensures { λ r. ⌜ r ≡ firstFault (drop 4 (faultQuestions (now (line .entry)))) ⌝ }
 {
     if !has_place(line, table, count) {
         return PLACE;

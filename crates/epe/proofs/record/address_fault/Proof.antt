@@ -1,7 +1,7 @@
 -- `epe::record::address_fault`: the questions from the fifth on, in order.
 use borrow.Author.Needs.{needs}
 use Rattle.epe.specs.Faults.{faultQuestions}
-use Rattle.epe.proofs.RecordLaws.{faults}
+use Rattle.epe.proofs.Asking.{asking}
 use Rattle.epe.proofs.record.address_fault.Statement.{statement}
 use Rattle.epe.proofs.record.address_fault.Tie as tie
 
@@ -10,28 +10,28 @@ has-place-requires c κs = search needs
 
 returns : tie.Need-returns
 unfolding faultQuestions
-returns c = search faults depth 12
+returns c = search asking depth 24
 
 has-house-requires : tie.Need-has-house-requires
 has-house-requires c κs = search needs
 
 returns-2 : tie.Need-returns-2
 unfolding faultQuestions
-returns-2 c = search faults depth 12
+returns-2 c = search asking depth 24
 
 may-have-extra-requires : tie.Need-may-have-extra-requires
 may-have-extra-requires c κs = search needs
 
 returns-3 : tie.Need-returns-3
 unfolding faultQuestions
-returns-3 c = search faults depth 12
+returns-3 c = search asking depth 24
 
 benefit-fault-requires : tie.Need-benefit-fault-requires
 benefit-fault-requires c κs = search needs
 
 returns-4 : tie.Need-returns-4
 unfolding faultQuestions
-returns-4 c = search faults depth 12
+returns-4 c = search asking depth 24
 
 pub address-fault-spec : {M : Type 1} → statement M
 address-fault-spec =

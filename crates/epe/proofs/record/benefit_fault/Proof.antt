@@ -1,7 +1,7 @@
 -- `epe::record::benefit_fault`: the questions from the eighth on, in order.
 use borrow.Author.Needs.{needs}
 use Rattle.epe.specs.Faults.{faultQuestions}
-use Rattle.epe.proofs.RecordLaws.{faults}
+use Rattle.epe.proofs.Asking.{asking}
 use Rattle.epe.proofs.record.benefit_fault.Statement.{statement}
 use Rattle.epe.proofs.record.benefit_fault.Tie as tie
 
@@ -10,25 +10,25 @@ has-size-requires c κs = search needs
 
 returns : tie.Need-returns
 unfolding faultQuestions
-returns c = search faults depth 12
+returns c = search asking depth 24
 
 has-size-requires-2 : tie.Need-has-size-requires-2
 has-size-requires-2 c κs = search needs
 
 returns-2 : tie.Need-returns-2
 unfolding faultQuestions
-returns-2 c = search faults depth 12
+returns-2 c = search asking depth 24
 
 are-unspaced-requires : tie.Need-are-unspaced-requires
 are-unspaced-requires c κs = search needs
 
 returns-3 : tie.Need-returns-3
 unfolding faultQuestions
-returns-3 c = search faults depth 12
+returns-3 c = search asking depth 24
 
 returns-4 : tie.Need-returns-4
 unfolding faultQuestions
-returns-4 c = search faults depth 12
+returns-4 c = search asking depth 24
 
 pub benefit-fault-spec : {M : Type 1} → statement M
 benefit-fault-spec =

@@ -1,7 +1,7 @@
 -- `epe::record::fault` is `faultOf`: the questions in order.
 use borrow.Author.Needs.{needs}
 use Rattle.epe.specs.Faults.{faultQuestions, faultOf}
-use Rattle.epe.proofs.RecordLaws.{faults}
+use Rattle.epe.proofs.Asking.{asking}
 use Rattle.epe.proofs.record.fault.Statement.{statement}
 use Rattle.epe.proofs.record.fault.Tie as tie
 
@@ -10,35 +10,35 @@ has-size-requires c κs = search needs
 
 returns : tie.Need-returns
 unfolding faultQuestions faultOf
-returns c = search faults depth 12
+returns c = search asking depth 24
 
 has-size-requires-2 : tie.Need-has-size-requires-2
 has-size-requires-2 c κs = search needs
 
 returns-2 : tie.Need-returns-2
 unfolding faultQuestions faultOf
-returns-2 c = search faults depth 12
+returns-2 c = search asking depth 24
 
 has-size-requires-3 : tie.Need-has-size-requires-3
 has-size-requires-3 c κs = search needs
 
 returns-3 : tie.Need-returns-3
 unfolding faultQuestions faultOf
-returns-3 c = search faults depth 12
+returns-3 c = search asking depth 24
 
 has-postcode-requires : tie.Need-has-postcode-requires
 has-postcode-requires c κs = search needs
 
 returns-4 : tie.Need-returns-4
 unfolding faultQuestions faultOf
-returns-4 c = search faults depth 12
+returns-4 c = search asking depth 24
 
 address-fault-requires : tie.Need-address-fault-requires
 address-fault-requires c κs = search needs
 
 returns-5 : tie.Need-returns-5
 unfolding faultQuestions faultOf
-returns-5 c = search faults depth 12
+returns-5 c = search asking depth 24
 
 pub fault-spec : {M : Type 1} → statement M
 fault-spec =

@@ -1,8 +1,11 @@
--- `epe::name::is_payment` asks for the second letter only where the first is not there.
+-- `epe::name::has_payment` asks for the second letter only where the first is not there.
 use borrow.Author.Needs.{needs}
 use Rattle.text.proofs.Branches.{branches}
-use Rattle.epe.proofs.name.is_payment.Statement.{statement}
-use Rattle.epe.proofs.name.is_payment.Tie as tie
+use Rattle.epe.proofs.name.has_payment.Statement.{statement}
+use Rattle.epe.proofs.name.has_payment.Tie as tie
+
+part-of-requires : tie.Need-part-of-requires
+part-of-requires c κs = search needs
 
 slice-aggregate-equal : tie.Need-slice-aggregate-equal
 slice-aggregate-equal c = search needs
@@ -17,15 +20,16 @@ equal-requires-2 : tie.Need-equal-requires-2
 equal-requires-2 c κs = search needs
 
 returns : tie.Need-returns
-returns c = search branches depth 10
+returns c = rw (← c .before .before .before .part-of .ensures) (search branches depth 10)
 
 returns-2 : tie.Need-returns-2
-returns-2 c = search branches depth 10
+returns-2 c = rw (← c .before .before .before .before .before .part-of .ensures) (search branches depth 10)
 
-pub is-payment-spec : {M : Type 1} → statement M
-is-payment-spec =
+pub has-payment-spec : {M : Type 1} → statement M
+has-payment-spec =
     tie.close
     (tie.spec
+    part-of-requires
     slice-aggregate-equal
     equal-requires
     slice-aggregate-equal-2
