@@ -14,14 +14,11 @@ use Rattle.money.specs.declared.Money.{Money}
 use Rattle.epe.specs.Profile.{feesFit, profileFits}
 use Rattle.epe.specs.declared.ident.Ident.{Ident}
 use Rattle.epe.specs.declared.profile.Profile.{Profile}
-use Rattle.model.specs.Calls.{GoAhead, Pair, Close, OnOrder, Return, Call, Intake, Transfer, On, Answer}
+use Rattle.model.specs.Calls.{GoAhead, Pair, Close, OnOrder, Return, Intake, Transfer, On}
 use Rattle.model.specs.declared.Deed.the-variants.{Post, Pay, MarkUndelivered, Withdraw}
 use Rattle.model.specs.declared.Route.{Route}
 use Rattle.model.proofs.SoundParts.{halves}
-use Rattle.book.specs.Does.{Does}
-use Rattle.audit.specs.declared.reply.Reply.{Reply}
 use Rattle.audit.specs.Journal.{identIn, numberIn, profileIn, routeIn, moneyIn, firstText, secondText, actIn, callIn, entryFits}
-use Rattle.audit.specs.Replay.{replyOf, Plays}
 
 -- fees that are none spoil a profile
 pub unfit : (profile : Profile) → feesFit (profile .fees) ≡ false → profileFits profile ≡ false
@@ -32,14 +29,6 @@ unfit profile h = by (real (profile .today .0)) (eqb (length (profile .fees)) 5)
     by true true fees fields h = rw h
     by true false fees fields h = refl
     by false five fees fields h = refl
-
--- a call that was made and told, under the name that the entry gives it
-pub plays : {before after : List ℕ} {call same : Call} {answer : Answer} {reply : Reply} → call ≡ same → Does before call answer after
-    → reply ≡ replyOf answer → Plays before same reply after
-plays {answer = answer} is does is-reply = record { answer = answer; does = rw is at does; is-reply = is-reply }
-
-pub plays-same : {before after : List ℕ} {call same : Call} {reply : Reply} → call ≡ same → Plays before call reply after → Plays before same reply after
-plays-same is played = rw is at played
 
 -- a whole entry has one of the calls
 pub call-known : (entry : List ℕ) → entryFits entry ≡ true → getD entry 0 0 ≤ 9

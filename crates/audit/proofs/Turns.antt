@@ -11,10 +11,11 @@ use lib.Seq.{sets-eq, take-at, drop-append-add, drop-drop}
 use Rattle.text.proofs.Branches.{and-left, and-right}
 use Rattle.model.specs.Calls.{Call}
 use Rattle.book.specs.Does.{Does}
-use Rattle.audit.specs.declared.reply.Reply.{Reply}
+use Rattle.book.specs.Reply.{replyOf, Plays}
+use Rattle.book.specs.declared.reply.Reply.{Reply}
 use Rattle.audit.specs.Journal.{callIn, entryLength, entryFits, entriesFit, callsFrom, countIn, journalFits, callsIn}
 use Rattle.audit.specs.Listed.{Made, Chain, memoryAt, callsOf}
-use Rattle.audit.specs.Replay.{replyOf, allReplies, tellAt, Plays, Replayed, Replayable}
+use Rattle.audit.specs.Replay.{allReplies, tellAt, Replayed, Replayable}
 use Rattle.audit.proofs.Listing.{listed}
 
 -- one more call behind those made

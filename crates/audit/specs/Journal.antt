@@ -16,15 +16,14 @@ use Prim.Native.Nat.{ℕ, zero, suc, _+_}
 use lib.Dec.{leb, eqb}
 use lib.ListN.{length, getD, take, drop}
 use Rattle.money.specs.declared.Money.{Money}
-use Rattle.money.specs.declared.Money.the-variants.{K, O}
 use Rattle.epe.specs.Profile.{asFees}
 use Rattle.epe.specs.declared.ident.Ident.{Ident}
 use Rattle.epe.specs.declared.profile.Profile.{Profile}
 use Rattle.model.specs.Calls.{Act, GoAhead, Pair, Close, OnOrder, Return, Call, Intake, Transfer, On}
 use Rattle.model.specs.declared.Deed.the-variants.{Post, Pay, MarkUndelivered, Withdraw}
 use Rattle.model.specs.declared.Route.{Route}
-use Rattle.model.specs.declared.Route.the-variants.{Zwr, Opr, Zpr, Zzr}
 use Rattle.memory.specs.Number.{numberAt}
+use Rattle.book.specs.Numbers.{routeOf, moneyOf}
 
 abbrev pub identIn : List ℕ → Ident
 identIn entry = record { bytes = take 17 (drop 4 entry); len = getD entry 3 0 }
@@ -43,11 +42,10 @@ profileIn entry = record {
 }
 
 abbrev pub routeIn : List ℕ → Route
-routeIn entry =
-    cond (eqb (getD entry 1 0) 0) Zwr (cond (eqb (getD entry 1 0) 1) Opr (cond (eqb (getD entry 1 0) 2) Zpr Zzr))
+routeIn entry = routeOf (getD entry 1 0)
 
 abbrev pub moneyIn : List ℕ → Money
-moneyIn entry = cond (eqb (getD entry 2 0) 0) K O
+moneyIn entry = moneyOf (getD entry 2 0)
 
 abbrev pub firstLength : List ℕ → ℕ
 firstLength entry = numberAt 8 entry 85

@@ -1,4 +1,6 @@
 // A journal of calls, read in place.
+use book::numbers::money_of;
+use book::numbers::route_of;
 use calendar::date::Date;
 use epe::ident::Ident;
 use epe::profile::Profile;
@@ -61,12 +63,7 @@ pub fn route_in(entry: &[u8]) -> Route
     requires { ⌜ 101 ≤ length (now entry) ⌝ }
     ensures { λ r. ⌜ r ≡ routeIn (now (entry .entry)) ⌝ }
 {
-    match entry[1] {
-        0 => Route::Zwr,
-        1 => Route::Opr,
-        2 => Route::Zpr,
-        _ => Route::Zzr,
-    }
+    route_of(entry[1] as u64)
 }
 
 // The money of an entry.
@@ -74,7 +71,7 @@ pub fn money_in(entry: &[u8]) -> Money
     requires { ⌜ 101 ≤ length (now entry) ⌝ }
     ensures { λ r. ⌜ r ≡ moneyIn (now (entry .entry)) ⌝ }
 {
-    if entry[2] == 0 { Money::K } else { Money::O }
+    money_of(entry[2] as u64)
 }
 
 // The name or the title of an entry.

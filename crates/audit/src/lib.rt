@@ -1,12 +1,11 @@
 // The audit of a book: demand 3 over any list of calls in lent memory, and a journal of calls replayed.
 mod journal;
 mod play;
-pub mod reply;
 
 use crate::journal::does_journal_fit;
 use crate::journal::entry_length;
 use crate::play::play;
-use crate::reply::Reply;
+use book::reply::Reply;
 use memory::number::read_eight;
 use memory::shipments;
 use sound::is_sound;

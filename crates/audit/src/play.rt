@@ -6,14 +6,6 @@ use crate::journal::money_in;
 use crate::journal::profile_in;
 use crate::journal::route_in;
 use crate::journal::second_text;
-use crate::reply::Reply;
-use crate::reply::refused;
-use crate::reply::tell_acceptance;
-use crate::reply::tell_completion;
-use crate::reply::tell_pairing;
-use crate::reply::tell_payment;
-use crate::reply::tell_posting;
-use crate::reply::tell_returning;
 use book::close;
 use book::go_ahead;
 use book::intake;
@@ -21,6 +13,14 @@ use book::mark_undelivered;
 use book::pair;
 use book::pay;
 use book::post;
+use book::reply::Reply;
+use book::reply::refused;
+use book::reply::tell_acceptance;
+use book::reply::tell_completion;
+use book::reply::tell_pairing;
+use book::reply::tell_payment;
+use book::reply::tell_posting;
+use book::reply::tell_returning;
 use book::return_money;
 use book::transfer;
 use book::withdraw;
@@ -34,7 +34,7 @@ ghost use Prim.Native.Nat.{_≤_};
 ghost use lib.ListN.{length, getD};
 ghost use Rattle.model.specs.Calls.{Intake, Transfer, On};
 ghost use Rattle.audit.specs.Journal.{identIn, numberIn, profileIn, firstText, secondText, actIn, callIn, entryFits};
-ghost use Rattle.audit.specs.Replay.{Plays};
+ghost use Rattle.book.specs.Reply.{Plays};
 
 // Makes an entry's intake.
 fn play_intake(memory: &mut [u8], entry: &[u8]) -> Reply

@@ -5,6 +5,7 @@ pub mod Storing
 pub mod Finding
 pub mod Changing
 pub mod Calls
+pub mod Telling
 pub mod Acting
 pub mod Orders
 pub mod Returns

@@ -1,9 +1,11 @@
 // The settlement book in lent memory: every call of document 01 but the sheet.
 pub mod answer;
 mod enter;
+pub mod numbers;
 mod order;
 mod place;
 pub mod refusals;
+pub mod reply;
 mod route;
 mod rows;
 mod shipment;

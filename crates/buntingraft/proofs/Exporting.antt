@@ -11,10 +11,11 @@ use Rattle.model.specs.declared.Route.{Route}
 use Rattle.memory.specs.Read.{readBook}
 use Rattle.book.specs.Does.{Does}
 use Rattle.book.specs.NoReturn.{noReturn}
-use Rattle.audit.specs.Replay.{replyOf, refusedWith, Plays}
-use Rattle.audit.specs.declared.reply.Reply.{Reply}
-use Rattle.audit.proofs.Playing.{plays}
-use Rattle.buntingraft.specs.Exports.{routeOf, moneyOf, areKnown, Returns}
+use Rattle.book.specs.Numbers.{areKnown, routeOf, moneyOf}
+use Rattle.book.specs.Reply.{replyOf, refusedWith, Plays}
+use Rattle.book.specs.declared.reply.Reply.{Reply}
+use Rattle.book.proofs.Telling.{plays}
+use Rattle.buntingraft.specs.Exports.{Returns}
 
 module _ {before : List ℕ} {ident same : Ident} (ident-is : ident ≡ same) {reply : Reply} where
   pub plays-on : {act : Act} {answer : Answer} {after : List ℕ} → Does before (On ident act) answer after → reply ≡ replyOf answer

@@ -1,18 +1,19 @@
 // The C ABI of the library: its exports, and nothing else. include/buntingraft.h says what each is for.
-use audit::reply::Reply;
-use audit::reply::done;
-use audit::reply::refused;
-use audit::reply::tell_acceptance;
-use audit::reply::tell_completion;
-use audit::reply::tell_pairing;
-use audit::reply::tell_payment;
-use audit::reply::tell_posting;
-use audit::reply::tell_returning;
+use book::numbers::are_known;
+use book::numbers::money_of;
+use book::numbers::route_of;
+use book::reply::Reply;
+use book::reply::done;
+use book::reply::refused;
+use book::reply::tell_acceptance;
+use book::reply::tell_completion;
+use book::reply::tell_pairing;
+use book::reply::tell_payment;
+use book::reply::tell_posting;
+use book::reply::tell_returning;
 use epe::ident::ident_of;
 use epe::profile::Profile;
 use memory::SIZE;
-use model::Route;
-use money::Money;
 use sheet::SheetRow;
 use sheet::Sheeting;
 use sheet::Totals;
@@ -21,8 +22,8 @@ ghost use Rattle.epe.specs.Ident.{identOf};
 ghost use Rattle.model.specs.Calls.{GoAhead, Pair, Close, OnOrder, Intake, Transfer, On};
 ghost use Rattle.model.specs.declared.Deed.the-variants.{Post, Pay, MarkUndelivered, Withdraw};
 ghost use Rattle.memory.specs.Layout.{size};
-ghost use Rattle.audit.specs.Replay.{Plays};
-ghost use Rattle.buntingraft.specs.Exports.{routeOf, moneyOf, areKnown, replyToSheet, Makes, Returns, Sheets};
+ghost use Rattle.book.specs.Reply.{Plays};
+ghost use Rattle.buntingraft.specs.Exports.{replyToSheet, Makes, Returns, Sheets};
 
 // How many bytes a book takes.
 #[no_mangle]
@@ -115,32 +116,6 @@ pub extern "C" fn buntingraft_withdraw(book: &mut [u8], id: &[u8], order: u64) -
     ensures { λ r. ⌜ Plays (now (book .entry)) (On (identOf (now (id .entry))) (OnOrder Withdraw order)) r (now (book .exit)) ⌝ }
 {
     tell_completion(book::withdraw(book, ident_of(id), order))
-}
-
-// Are the numbers those of a route and of a money?
-fn are_known(route: u64, money: u64) -> bool
-    ensures { λ r. ⌜ r ≡ areKnown route money ⌝ }
-{
-    route <= 3 && money <= 1
-}
-
-// The route of a number.
-fn route_of(n: u64) -> Route
-    ensures { λ r. ⌜ r ≡ routeOf n ⌝ }
-{
-    match n {
-        0 => Route::Zwr,
-        1 => Route::Opr,
-        2 => Route::Zpr,
-        _ => Route::Zzr,
-    }
-}
-
-// The money of a number.
-fn money_of(n: u64) -> Money
-    ensures { λ r. ⌜ r ≡ moneyOf n ⌝ }
-{
-    if n == 0 { Money::K } else { Money::O }
 }
 
 // Returns money by a route.

@@ -38,9 +38,9 @@ use denote.Triple.Walked.{says, Stays, gave-ref, gave-slice, stay-none-slice, wa
 use denote.Triple.Clauses.{ensured, lasts}
 use denote.Exit.{yes}
 use Rattle.memory.specs.Read.{readBook}
-use Rattle.audit.specs.declared.reply.Reply.{Reply}
-use Rattle.audit.proofs.reply.Reply as D
-use Rattle.audit.proofs.reply.Reply.Laws as D′
+use Rattle.book.specs.declared.reply.Reply.{Reply}
+use Rattle.book.proofs.reply.Reply as D
+use Rattle.book.proofs.reply.Reply.Laws as D′
 use Rattle.sheet.specs.Sheet.{Sheet, sheetOf}
 use Rattle.sheet.specs.declared.Sheeting.{Sheeting}
 use Rattle.sheet.specs.declared.SheetRow.{SheetRow}

@@ -1,5 +1,6 @@
 -- `audit::play::play_act` does what the first byte says with the shipment of the identifier.
-use Rattle.audit.proofs.Playing.{plays, on-go-ahead, on-pair, on-close, on-return}
+use Rattle.book.proofs.Telling.{plays}
+use Rattle.audit.proofs.Playing.{on-go-ahead, on-pair, on-close, on-return}
 use borrow.Author.Needs.{needs}
 use Rattle.audit.proofs.play.play_act.Statement.{statement}
 use Rattle.audit.proofs.play.play_act.Tie as tie

@@ -1,5 +1,6 @@
 -- `audit::play::play_on_order` does what the first byte says with the order of the number.
-use Rattle.audit.proofs.Playing.{plays, on-post, on-pay, on-undelivered, on-withdraw}
+use Rattle.book.proofs.Telling.{plays}
+use Rattle.audit.proofs.Playing.{on-post, on-pay, on-undelivered, on-withdraw}
 use borrow.Author.Needs.{needs}
 use Rattle.audit.proofs.play.play_on_order.Statement.{statement}
 use Rattle.audit.proofs.play.play_on_order.Tie as tie

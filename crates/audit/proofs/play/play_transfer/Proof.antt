@@ -1,5 +1,5 @@
 -- `audit::play::play_transfer` makes a transfer of the text and the number of the entry.
-use Rattle.audit.proofs.Playing.{plays}
+use Rattle.book.proofs.Telling.{plays}
 use Rattle.audit.proofs.JournalLaws.{fields-there}
 use Rattle.model.specs.Calls.{Transfer}
 use native.Mathlib.Omega.{arith}

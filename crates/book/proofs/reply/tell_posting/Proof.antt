@@ -1,7 +1,7 @@
--- `audit::reply::tell_posting` goes by the form of the posting.
+-- `book::reply::tell_posting` goes by the form of the posting.
 use borrow.Author.Needs.{needs}
-use Rattle.audit.proofs.reply.tell_posting.Statement.{statement}
-use Rattle.audit.proofs.reply.tell_posting.Tie as tie
+use Rattle.book.proofs.reply.tell_posting.Statement.{statement}
+use Rattle.book.proofs.reply.tell_posting.Tie as tie
 
 enum-known-posting : tie.Need-enum-known-posting
 enum-known-posting c = search needs

@@ -1,7 +1,7 @@
--- `audit::reply::tell_pairing` goes by the form of the pairing.
+-- `book::reply::tell_pairing` goes by the form of the pairing.
 use borrow.Author.Needs.{needs}
-use Rattle.audit.proofs.reply.tell_pairing.Statement.{statement}
-use Rattle.audit.proofs.reply.tell_pairing.Tie as tie
+use Rattle.book.proofs.reply.tell_pairing.Statement.{statement}
+use Rattle.book.proofs.reply.tell_pairing.Tie as tie
 
 enum-told : tie.Need-enum-told
 enum-told c = search needs

@@ -1,7 +1,7 @@
--- `audit::reply::tell_completion` goes by the form of the completion.
+-- `book::reply::tell_completion` goes by the form of the completion.
 use borrow.Author.Needs.{needs}
-use Rattle.audit.proofs.reply.tell_completion.Statement.{statement}
-use Rattle.audit.proofs.reply.tell_completion.Tie as tie
+use Rattle.book.proofs.reply.tell_completion.Statement.{statement}
+use Rattle.book.proofs.reply.tell_completion.Tie as tie
 
 enum-told : tie.Need-enum-told
 enum-told c = search needs

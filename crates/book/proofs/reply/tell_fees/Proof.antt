@@ -1,7 +1,7 @@
--- `audit::reply::tell_fees` goes by the form of the return.
+-- `book::reply::tell_fees` goes by the form of the return.
 use borrow.Author.Needs.{needs}
-use Rattle.audit.proofs.reply.tell_fees.Statement.{statement}
-use Rattle.audit.proofs.reply.tell_fees.Tie as tie
+use Rattle.book.proofs.reply.tell_fees.Statement.{statement}
+use Rattle.book.proofs.reply.tell_fees.Tie as tie
 
 enum-told : tie.Need-enum-told
 enum-told c = search needs

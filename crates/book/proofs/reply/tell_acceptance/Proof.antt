@@ -1,7 +1,7 @@
--- `audit::reply::tell_acceptance` goes by the form of the acceptance.
+-- `book::reply::tell_acceptance` goes by the form of the acceptance.
 use borrow.Author.Needs.{needs}
-use Rattle.audit.proofs.reply.tell_acceptance.Statement.{statement}
-use Rattle.audit.proofs.reply.tell_acceptance.Tie as tie
+use Rattle.book.proofs.reply.tell_acceptance.Statement.{statement}
+use Rattle.book.proofs.reply.tell_acceptance.Tie as tie
 
 enum-known-acceptance : tie.Need-enum-known-acceptance
 enum-known-acceptance c = search needs

@@ -1,7 +1,7 @@
--- `audit::reply::tell_amounts` goes by the form of the return.
+-- `book::reply::tell_amounts` goes by the form of the return.
 use borrow.Author.Needs.{needs}
-use Rattle.audit.proofs.reply.tell_amounts.Statement.{statement}
-use Rattle.audit.proofs.reply.tell_amounts.Tie as tie
+use Rattle.book.proofs.reply.tell_amounts.Statement.{statement}
+use Rattle.book.proofs.reply.tell_amounts.Tie as tie
 
 enum-known-returning : tie.Need-enum-known-returning
 enum-known-returning c = search needs

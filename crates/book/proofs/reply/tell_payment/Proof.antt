@@ -1,7 +1,7 @@
--- `audit::reply::tell_payment` goes by the form of the payment.
+-- `book::reply::tell_payment` goes by the form of the payment.
 use borrow.Author.Needs.{needs}
-use Rattle.audit.proofs.reply.tell_payment.Statement.{statement}
-use Rattle.audit.proofs.reply.tell_payment.Tie as tie
+use Rattle.book.proofs.reply.tell_payment.Statement.{statement}
+use Rattle.book.proofs.reply.tell_payment.Tie as tie
 
 enum-known-payment : tie.Need-enum-known-payment
 enum-known-payment c = search needs

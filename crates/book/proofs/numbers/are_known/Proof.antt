@@ -1,8 +1,8 @@
--- `buntingraft::are_known` asks of both.
+-- `book::numbers::are_known` asks of both.
 use Rattle.text.proofs.Branches.{branches}
-use Rattle.buntingraft.specs.Exports.{areKnown}
-use Rattle.buntingraft.proofs.are_known.Statement.{statement}
-use Rattle.buntingraft.proofs.are_known.Tie as tie
+use Rattle.book.specs.Numbers.{areKnown}
+use Rattle.book.proofs.numbers.are_known.Statement.{statement}
+use Rattle.book.proofs.numbers.are_known.Tie as tie
 
 returns : tie.Need-returns
 unfolding areKnown

@@ -1,7 +1,7 @@
--- `audit::reply::tell_returning` goes by the money.
+-- `book::reply::tell_returning` goes by the money.
 use borrow.Author.Needs.{needs}
-use Rattle.audit.proofs.reply.tell_returning.Statement.{statement}
-use Rattle.audit.proofs.reply.tell_returning.Tie as tie
+use Rattle.book.proofs.reply.tell_returning.Statement.{statement}
+use Rattle.book.proofs.reply.tell_returning.Tie as tie
 
 enum-told : tie.Need-enum-told
 enum-told c = search needs

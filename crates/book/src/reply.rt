@@ -1,15 +1,15 @@
 // An answer in three numbers.
-use book::answer::Acceptance;
-use book::answer::Completion;
-use book::answer::Pairing;
-use book::answer::Payment;
-use book::answer::Posting;
-use book::answer::Returning;
+use crate::answer::Acceptance;
+use crate::answer::Completion;
+use crate::answer::Pairing;
+use crate::answer::Payment;
+use crate::answer::Posting;
+use crate::answer::Returning;
 use money::Money;
 ghost use mathlib.Core.Path.{_≡_};
 ghost use Rattle.money.specs.declared.Money.the-variants.{K, O};
 ghost use Rattle.book.specs.Answers.{completionOf, acceptanceOf, pairingOf, postingOf, paymentOf, returningOf};
-ghost use Rattle.audit.specs.Replay.{doneWith, shortBy, refusedWith, replyOf};
+ghost use Rattle.book.specs.Reply.{doneWith, shortBy, refusedWith, replyOf};
 
 // 0 done, 1 short or 2 refused, and what the answer says.
 #[repr(C)]

@@ -1,8 +1,8 @@
--- `buntingraft::route_of` goes by the number.
+-- `book::numbers::route_of` goes by the number.
 use Rattle.text.proofs.Branches.{branches}
-use Rattle.buntingraft.specs.Exports.{routeOf}
-use Rattle.buntingraft.proofs.route_of.Statement.{statement}
-use Rattle.buntingraft.proofs.route_of.Tie as tie
+use Rattle.book.specs.Numbers.{routeOf}
+use Rattle.book.proofs.numbers.route_of.Statement.{statement}
+use Rattle.book.proofs.numbers.route_of.Tie as tie
 
 returns : tie.Need-returns
 unfolding routeOf

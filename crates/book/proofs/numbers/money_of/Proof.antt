@@ -1,8 +1,8 @@
--- `buntingraft::money_of` goes by the number.
+-- `book::numbers::money_of` goes by the number.
 use Rattle.text.proofs.Branches.{branches}
-use Rattle.buntingraft.specs.Exports.{moneyOf}
-use Rattle.buntingraft.proofs.money_of.Statement.{statement}
-use Rattle.buntingraft.proofs.money_of.Tie as tie
+use Rattle.book.specs.Numbers.{moneyOf}
+use Rattle.book.proofs.numbers.money_of.Statement.{statement}
+use Rattle.book.proofs.numbers.money_of.Tie as tie
 
 returns : tie.Need-returns
 unfolding moneyOf
