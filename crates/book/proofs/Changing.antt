@@ -9,7 +9,7 @@ use native.Mathlib.Omega.{arith}
 use borrow.Author.Tests.{eqb-true, eqb-false}
 use lib.Dec.{eqb}
 use Rattle.text.proofs.Branches.{either-way, and-left, and-right, both-yes}
-use Rattle.model.specs.Shipment.{Shipment}
+use Rattle.model.specs.Shipment.{mostShipments, Shipment}
 use Rattle.model.specs.Calls.{Call, Answer, Refused, Outcome}
 use Rattle.model.specs.Book.{stay, onFirst}
 use Rattle.memory.specs.Layout.{headBytes, rowBytes}
@@ -26,7 +26,7 @@ shipment-alike : (m m′ : List ℕ) (j s : ℕ) → headBytes m′ j ≡ headBy
 shipment-alike m m′ j s head rows = rw (head, rows-alike m m′ s (ordersAt m j) rows)
 
 module _ {m m′ : List ℕ} {i k : ℕ} {does : Shipment → Outcome} {answer : Answer} (act : ActAt m i k does answer m′) where
-  behind-alike : (j s n : ℕ) → i < j → k + ordersAt m i ≤ s → j + n ≤ 32 → shipmentsFrom m′ j s n ≡ shipmentsFrom m j s n
+  behind-alike : (j s n : ℕ) → i < j → k + ordersAt m i ≤ s → j + n ≤ mostShipments → shipmentsFrom m′ j s n ≡ shipmentsFrom m j s n
   unfolding shipmentsFrom
   behind-alike j s zero behind rows few = refl
   behind-alike j s (suc n) behind rows few =
@@ -35,13 +35,13 @@ module _ {m m′ : List ℕ} {i k : ℕ} {does : Shipment → Outcome} {answer :
       let rest = behind-alike (suc j) (s + ordersAt m j) n (omega arith) (omega arith) (omega arith) in
       rw (first, head, rest)
 
-  flag-kept : (j : ℕ) → j < 32 → flagsInForm (headBytes m j) ≡ true → flagsInForm (headBytes m′ j) ≡ true
+  flag-kept : (j : ℕ) → j < mostShipments → flagsInForm (headBytes m j) ≡ true → flagsInForm (headBytes m′ j) ≡ true
   flag-kept j few h =
       either-way (eqb j i)
       (λ same. let e = eqb-true j i same in rw e (act .flags (rw e at h)))
       (λ apart. rw (act .only .other-heads j few (eqb-false j i apart)) h)
 
-  pub flags-kept : (j n : ℕ) → j + n ≤ 32 → flagsFrom m j n ≡ true → flagsFrom m′ j n ≡ true
+  pub flags-kept : (j n : ℕ) → j + n ≤ mostShipments → flagsFrom m j n ≡ true → flagsFrom m′ j n ≡ true
   unfolding flagsFrom
   flags-kept j zero few h = refl
   flags-kept j (suc n) few h =
@@ -61,7 +61,7 @@ module _ {is : List ℕ → Bool} {does : Shipment → Outcome} {call : Call} (s
       (λ fits. let same = rw fits at e in cc)
       (λ other. rw (by-head, other, none-found m (suc j) (s + ordersAt m j) n (rw other at e)))
 
-  pub first-acted : {m m′ : List ℕ} {i k j s n : ℕ} {answer : Answer} → ActAt m i k does answer m′ → Found is m i k j s n → j + n ≤ 32
+  pub first-acted : {m m′ : List ℕ} {i k j s n : ℕ} {answer : Answer} → ActAt m i k does answer m′ → Found is m i k j s n → j + n ≤ mostShipments
       → onFirst (seeks .called) does (shipmentsFrom m j s n) ≡ record { book = shipmentsFrom m′ j s n; answer = answer }
   unfolding shipmentsFrom
   first-acted {m} {m′} {i} {k} act (here {n} fits) few =

@@ -14,9 +14,10 @@ use Rattle.epe.specs.declared.name.Name.{Name}
 use Rattle.epe.specs.declared.record.Order.{Order}
 use Rattle.model.specs.Book.{enteredRow, newShipment, rowsIn}
 use Rattle.memory.specs.Layout.{headBytes, rowBytes}
+use Rattle.memory.specs.States.{lastFault}
 use Rattle.memory.specs.Rows.{rowOf}
-use Rattle.memory.specs.Enter.{OrderEntered, HeadEntered}
 use Rattle.memory.specs.Read.{rowsFrom, shipmentAt, shipmentsFrom, bookIn}
+use Rattle.memory.specs.Enter.{OrderEntered, HeadEntered}
 use Rattle.memory.proofs.Parts.{number-heads, number-rows}
 use Rattle.book.specs.Place.{RowsStored}
 use Rattle.book.specs.Entering.{keptRow, Fits, ShipmentEntered}
@@ -32,7 +33,7 @@ order-in-range kept j (suc n) (suc i) all within =
     let next : j + suc i ≡ j + 1 + i = omega arith in rw next (order-in-range kept (j + 1) n i (all .1) (omega arith))
 
 pub kept-in-range : (kept : List ℕ) (n i : ℕ) {order : Order} → EachInRange (ordersIn kept 0 n) → i < n → order ≡ orderIn kept i
-    → (order .amount .0 < 2 ^ 32) × (order .fault ≤ 10)
+    → (order .amount .0 < 2 ^ 32) × (order .fault ≤ lastFault)
 kept-in-range kept n i all within is =
     let here : 0 + i ≡ i = omega arith in
     let range = rw here at (order-in-range kept 0 n i all within) in

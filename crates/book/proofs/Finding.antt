@@ -10,8 +10,8 @@ use Rattle.text.proofs.Branches.{either-way}
 use Rattle.model.specs.Book.{rowsIn}
 use Rattle.model.specs.Sound.{shipmentSound, shipmentsSound}
 use Rattle.model.proofs.SoundParts.{halves}
-use Rattle.memory.specs.Number.{numberAt}
 use Rattle.memory.specs.Layout.{headBytes}
+use Rattle.memory.specs.Heads.{orderCountIn}
 use Rattle.memory.specs.Read.{ordersAt, shipmentAt, shipmentsFrom}
 use Rattle.sound.proofs.ReadLaws.{rows-next}
 use Rattle.book.specs.declared.place.Place.the-variants.{Unsound, Unknown, At}
@@ -57,12 +57,12 @@ module _ (is : List ℕ → Bool) (m : List ℕ) {head : List ℕ} {t : Bool} (i
       by zero h = absurd (omega arith)
       by (suc n) h = rw (test-is ∙ fits)
 
-  pub looked-on : {n : ℕ} → n ≡ numberAt 2 head 30 → t ≡ false → placeFrom is m (i + 1) (k + n) (left - 1) ≡ placeFrom is m i k left
+  pub looked-on : {n : ℕ} → n ≡ orderCountIn head → t ≡ false → placeFrom is m (i + 1) (k + n) (left - 1) ≡ placeFrom is m i k left
   unfolding placeFrom
   looked-on {n} orders other = by left more
     where
       count : n ≡ ordersAt m i
-      count = orders ∙ ap (λ bytes. numberAt 2 bytes 30) is-head
+      count = orders ∙ ap orderCountIn is-head
 
       by : (left : ℕ) → 0 < left → placeFrom is m (i + 1) (k + n) (left - 1) ≡ placeFrom is m i k left
       by zero h = absurd (omega arith)

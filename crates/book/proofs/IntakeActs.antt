@@ -2,12 +2,12 @@
 -- Assumes nothing.
 use mathlib.Core.Path.{_≡_, refl, sym, ap, _∙_}
 use mathlib.Core.Bool.{Bool, true, false, cond, false≢true}
-use mathlib.Core.List.{List, [], _∷_, map}
-use Prim.Native.Nat.{ℕ, zero, suc, _+_, _-_, _≤_, _<_, _^_}
+use mathlib.Core.List.{List, map}
+use Prim.Native.Nat.{ℕ, _+_, _-_, _≤_, _<_, _^_}
 use native.Mathlib.Omega.{arith}
 use borrow.Author.Tests.{leb-true, leb-false, le-leb, lt-leb, le-ltb, lt-ltb}
 use lib.Dec.{leb, ltb}
-use lib.ListN.{length, getD, length-replicate}
+use lib.ListN.{length, length-replicate}
 use Rattle.text.proofs.Branches.{and-left, and-right, either-way}
 use Rattle.epe.specs.Name.{nameOf, nameInForm}
 use Rattle.epe.specs.Profile.{profileFits}
@@ -27,7 +27,7 @@ use Rattle.epe.proofs.AcceptedAsStated.{accepted-as-stated}
 use Rattle.epe.proofs.Judging.{two-steps-are-contents}
 use Rattle.epe.proofs.Keeping.{kept-in-order}
 use Rattle.epe.proofs.QuestionLaws.{asked-no, asked-yes, asked-none, asked-behind, asked-before}
-use Rattle.model.specs.Shipment.{Shipment}
+use Rattle.model.specs.Shipment.{mostShipments, mostRows, Shipment}
 use Rattle.model.specs.Calls.{Call, Intake, Answer, Refused, Accepted}
 use Rattle.model.specs.Book.{feeFor, Book, stay, isUnknown, rowsIn, enteredRow, newShipment, entered, intakeQuestions, takenIn, step}
 use Rattle.model.specs.Sound.{sound}
@@ -49,10 +49,10 @@ unfolding nameInForm
 kind-below name h = leb-true (name .kind) 4 (search halves)
 
 -- where there are too many orders no shipment is entered, whatever it would be
-too-many : (s s′ : Shipment) (n faulty : ℕ) (book : Book) → 2_048 < n → enteredIn [] s n faulty book ≡ enteredIn [] s′ n faulty book
+too-many : (s s′ : Shipment) (n faulty : ℕ) (book : Book) → mostRows < n → enteredIn [] s n faulty book ≡ enteredIn [] s′ n faulty book
 too-many s s′ n faulty book many =
-    let full = lt-leb (rowsIn book + n) 2048 (omega arith) in
-    either-way (ltb (length book) 32)
+    let full = lt-leb (rowsIn book + n) mostRows (omega arith) in
+    either-way (ltb (length book) mostShipments)
     (λ few. asked-yes 903 _ _ _ few ∙ asked-no 904 _ _ _ full ∙ sym (asked-yes 903 _ _ _ few ∙ asked-no 904 _ _ _ full))
     (λ none. asked-no 903 _ _ _ none ∙ sym (asked-no 903 _ _ _ none))
 
@@ -65,34 +65,34 @@ module _ (m : List ℕ) (i : ℕ) (name : Name) (fee n faulty : ℕ) (kept : Lis
   unfolding bookIn
   book-length = shipments-many m 0 0 (shipmentsIn m) ∙ sym (opened .last)
 
-  pub no-shipment-left : 32 ≤ i → DoesEnter [] new n faulty m (Refused 903) m
+  pub no-shipment-left : mostShipments ≤ i → DoesEnter [] new n faulty m (Refused 903) m
   no-shipment-left full = record {
     by-call = λ call stepped.
-        stays (opened .sound) (stepped ∙ asked-no 903 _ _ _ (le-ltb (length (bookIn m)) 32 (omega (arith, book-length))));
+        stays (opened .sound) (stepped ∙ asked-no 903 _ _ _ (le-ltb (length (bookIn m)) mostShipments (omega (arith, book-length))));
   }
 
-  module _ (few : i < 32) {k : ℕ} (is-from : k ≡ rowsIn (shipmentsFrom m 0 0 i)) where
+  module _ (few : i < mostShipments) {k : ℕ} (is-from : k ≡ rowsIn (shipmentsFrom m 0 0 i)) where
     from-is : k ≡ rowsIn (bookIn m)
     unfolding bookIn
     from-is = is-from ∙ ap (λ n. rowsIn (shipmentsFrom m 0 0 n)) (opened .last)
 
-    pub from-within : k ≤ 2_048
+    pub from-within : k ≤ mostRows
     from-within = omega (arith, from-is, sound-parts m (opened .sound) .rows)
 
-    few-enough : ltb (length (bookIn m)) 32 ≡ true
-    few-enough = lt-ltb (length (bookIn m)) 32 (omega (arith, book-length))
+    few-enough : ltb (length (bookIn m)) mostShipments ≡ true
+    few-enough = lt-ltb (length (bookIn m)) mostShipments (omega (arith, book-length))
 
     module _ (counted : Counted n kept) where
-      pub no-row-left : 2_048 - k < n → DoesEnter [] new n faulty m (Refused 904) m
+      pub no-row-left : mostRows - k < n → DoesEnter [] new n faulty m (Refused 904) m
       no-row-left full = record {
         by-call = λ call stepped.
             stays (opened .sound)
             (stepped
             ∙ asked-yes 903 _ _ _ few-enough
-            ∙ asked-no 904 _ _ _ (lt-leb (rowsIn (bookIn m) + n) 2048 (omega (arith, from-is, from-within))));
+            ∙ asked-no 904 _ _ _ (lt-leb (rowsIn (bookIn m) + n) mostRows (omega (arith, from-is, from-within))));
       }
 
-      pub fits-behind : n ≤ 2_048 - k → Fits m i k name fee n kept
+      pub fits-behind : n ≤ mostRows - k → Fits m i k name fee n kept
       fits-behind room = record {
         enough = sound-parts m (opened .sound) .enough;
         last = opened .last;
@@ -104,7 +104,7 @@ module _ (m : List ℕ) (i : ℕ) (name : Name) (fee n faulty : ℕ) (kept : Lis
         fee-fits = opened .fee-fits;
       }
 
-      pub entered-behind : {m′ : List ℕ} → n ≤ 2_048 - k → ShipmentEntered new m m′ → DoesEnter [] new n faulty m (Accepted n faulty) m′
+      pub entered-behind : {m′ : List ℕ} → n ≤ mostRows - k → ShipmentEntered new m m′ → DoesEnter [] new n faulty m (Accepted n faulty) m′
       unfolding soundIn
       entered-behind {m′} room done = record {
         by-call = λ call stepped.
@@ -112,7 +112,7 @@ module _ (m : List ℕ) (i : ℕ) (name : Name) (fee n faulty : ℕ) (kept : Lis
             let taken : step (bookIn m) call ≡ record { book = bookIn m′; answer = Accepted n faulty }
             = stepped
             ∙ asked-yes 903 _ _ _ few-enough
-            ∙ asked-yes 904 _ _ _ (le-leb (rowsIn (bookIn m) + n) 2048 (omega (arith, from-is, from-within)))
+            ∙ asked-yes 904 _ _ _ (le-leb (rowsIn (bookIn m) + n) mostRows (omega (arith, from-is, from-within)))
             ∙ asked-none _ _
             ∙ (λ t. record { book = sym (done .book) t; answer = Accepted n faulty }) in
             let enough = le-leb size (length m′) (rw (done .as-long) (parts .enough)) in
@@ -170,7 +170,7 @@ module _ (m : List ℕ) (i : ℕ) (profile : Profile) (name : Name) (file : List
       are-kept = ap (λ (all : Records). all .kept) are-records ∙ two-steps-are-contents .accepted-kept profile file (passed .0)
 
       -- the orders are in the table, if they are no more than a book has rows
-      in-table : n ≤ 2_048 → ordersIn kept 0 n ≡ orders file
+      in-table : n ≤ mostRows → ordersIn kept 0 n ≡ orders file
       in-table few =
           let all = passed .1 .0 in
           rw (are-kept, all) (kept-in-order noneKept (orders file) in-range (omega (arith, length-replicate {A = ℕ} 2_048 0)))
@@ -180,8 +180,8 @@ module _ (m : List ℕ) (i : ℕ) (profile : Profile) (name : Name) (file : List
 
       entered-alike : enteredIn [] (of-orders (orders file)) n faulty (bookIn m) ≡ enteredIn [] (of-orders (ordersIn kept 0 n)) n faulty (bookIn m)
       entered-alike =
-          either-way (leb n 2048) (λ few. ap (λ os. enteredIn [] (of-orders os) n faulty (bookIn m)) (sym (in-table (leb-true n 2048 few))))
-          (λ many. too-many (of-orders (orders file)) (of-orders (ordersIn kept 0 n)) n faulty (bookIn m) (leb-false n 2048 many))
+          either-way (leb n mostRows) (λ few. ap (λ os. enteredIn [] (of-orders os) n faulty (bookIn m)) (sym (in-table (leb-true n mostRows few))))
+          (λ many. too-many (of-orders (orders file)) (of-orders (ordersIn kept 0 n)) n faulty (bookIn m) (leb-false n mostRows many))
 
       pub contents-accepted : {answer : Answer} {m′ : List ℕ} → DoesEnter [] (of-orders (ordersIn kept 0 n)) n faulty m answer m′
           → DoesEnter (contentsQuestions profile file) (entered profile name (orders file)) (length (orders file)) (faultyCount (orders file)) m answer m′

@@ -9,9 +9,8 @@ use native.Mathlib.Omega.{arith}
 use Rattle.text.proofs.Branches.{either-way}
 use Rattle.epe.specs.declared.ident.Ident.{Ident}
 use Rattle.model.specs.Book.{isUnknown, rowsIn}
-use Rattle.memory.specs.Number.{numberAt}
 use Rattle.memory.specs.Layout.{headBytes}
-use Rattle.memory.specs.Heads.{shipmentIn}
+use Rattle.memory.specs.Heads.{orderCountIn, shipmentIn}
 use Rattle.memory.specs.Read.{ordersAt, shipmentsFrom}
 use Rattle.sound.proofs.ReadLaws.{rows-next}
 use Rattle.book.specs.declared.place.Place.{Place}
@@ -37,12 +36,12 @@ unknown-by-place ident m n looked same = ap isNone (sym same ∙ looked) ∙ non
 
 -- rows, head after head
 module _ (m : List ℕ) (i k left : ℕ) where
-  pub rows-on : {head : List ℕ} {n : ℕ} → head ≡ headBytes m i → n ≡ numberAt 2 head 30 → 0 < left
+  pub rows-on : {head : List ℕ} {n : ℕ} → head ≡ headBytes m i → n ≡ orderCountIn head → 0 < left
       → k + n + rowsIn (shipmentsFrom m (i + 1) (k + n) (left - 1)) ≡ k + rowsIn (shipmentsFrom m i k left)
   rows-on {head} {n} is-head is-count more = by left more
     where
       count : n ≡ ordersAt m i
-      count = is-count ∙ ap (λ bytes. numberAt 2 bytes 30) is-head
+      count = is-count ∙ ap orderCountIn is-head
 
       by : (left : ℕ) → 0 < left → k + n + rowsIn (shipmentsFrom m (i + 1) (k + n) (left - 1)) ≡ k + rowsIn (shipmentsFrom m i k left)
       by zero h = absurd (omega arith)

@@ -5,13 +5,12 @@ use mathlib.Core.Bool.{Bool, true, false}
 use mathlib.Core.List.{List}
 use mathlib.Core.Option.{some, none}
 use Prim.Native.Nat.{ℕ, zero, suc, _+_}
-use lib.ListN.{getD}
 use Rattle.text.proofs.Branches.{either-way}
 use Rattle.epe.specs.declared.ident.Ident.{Ident}
 use Rattle.model.specs.Shipment.{isPaired}
 use Rattle.model.specs.Book.{isCalled, find}
 use Rattle.memory.specs.Layout.{headBytes}
-use Rattle.memory.specs.Heads.{stageOf, shipmentIn}
+use Rattle.memory.specs.Heads.{stageIn, shipmentIn}
 use Rattle.memory.specs.Read.{ordersAt, shipmentAt, shipmentsFrom, shipmentsIn, bookIn, readBook}
 use Rattle.book.specs.declared.place.Place.the-variants.{Unsound, Unknown, At}
 use Rattle.book.specs.NoReturn.{noReturn}
@@ -50,7 +49,7 @@ module _ (ident : Ident) (m : List ℕ) where
       rw (placed .0, find-none 0 0 (shipmentsIn m) (placed .1))
 
   module _ {i k : ℕ} (placed : placeIn (calledIn ident) m ≡ At i k) {head : List ℕ} (is-head : head ≡ headBytes m i)
-      {paired : Bool} (is-paired : paired ≡ isPaired (stageOf (getD head 28 0))) where
+      {paired : Bool} (is-paired : paired ≡ isPaired (stageIn head)) where
     stage-is : isPaired (shipmentAt m i k .stage) ≡ paired
     stage-is = sym (is-paired ∙ paired-is m i k is-head)
 

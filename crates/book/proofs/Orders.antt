@@ -7,24 +7,25 @@ use Prim.Native.Nat.{ℕ, _+_, _-_, _≤_, _<_}
 use native.Mathlib.Omega.{arith}
 use borrow.Author.Tests.{leb-true}
 use lib.Dec.{leb}
-use lib.ListN.{length, getD, set}
+use lib.ListN.{length, set}
 use Rattle.text.specs.Bytes.{between}
 use Rattle.text.proofs.Branches.{and-left, and-right}
 use Rattle.money.specs.declared.Amount.{Amount}
 use Rattle.money.specs.declared.Fee.{Fee}
 use Rattle.epe.proofs.QuestionLaws.{asked-no, asked-yes, asked-none}
-use Rattle.model.specs.Shipment.{Shipment, isPaired}
+use Rattle.model.specs.Shipment.{mostRows, Shipment, isPaired}
 use Rattle.model.specs.Calls.{FeeEarned, Refused, changesNothing, leave, withRows, withState, fits, becomes, says, noOrder, orderAt, onOrder}
 use Rattle.model.specs.Sound.{faultInRange}
 use Rattle.model.specs.declared.Deed.{Deed}
 use Rattle.model.specs.declared.Deed.the-variants.{Post, Pay, MarkUndelivered, Withdraw}
 use Rattle.model.specs.declared.Row.{Row}
-use Rattle.memory.specs.Number.{numberAt}
 use Rattle.memory.specs.Layout.{headBytes, rowBytes}
-use Rattle.memory.specs.Rows.{rowOf, codeOf, withCodeAt}
-use Rattle.memory.specs.Heads.{stageOf, shipmentIn}
+use Rattle.memory.specs.Rows.{rowOf}
+use Rattle.memory.specs.Heads.{feeIn, stageIn, orderCountIn, shipmentIn}
 use Rattle.memory.specs.Read.{rowsFrom, ordersAt, shipmentAt, Sits}
-use Rattle.memory.proofs.RowLaws.{state-is-read-back, code-stored}
+use Rattle.memory.specs.Stored.{codeOf, withCodeAt}
+use Rattle.memory.proofs.StateLaws.{state-is-read-back}
+use Rattle.memory.proofs.RowLaws.{code-stored}
 use Rattle.sound.proofs.ReadLaws.{rows-many}
 use Rattle.book.specs.Answers.{handlingOf}
 use Rattle.book.specs.Place.{ActAt}
@@ -57,7 +58,7 @@ module _ (m : List ℕ) (i k : ℕ) (deed : Deed) (number : ℕ) {head : List �
   s = shipmentAt m i k
 
   -- "Paired? 19"
-  module _ {paired : Bool} (is-paired : paired ≡ isPaired (stageOf (getD head 28 0))) where
+  module _ {paired : Bool} (is-paired : paired ≡ isPaired (stageIn head)) where
     paired-test : isPaired (s .stage) ≡ paired
     paired-test = sym (is-paired ∙ paired-is m i k is-head)
 
@@ -66,7 +67,7 @@ module _ (m : List ℕ) (i k : ℕ) (deed : Deed) (number : ℕ) {head : List �
     unpaired-at unpaired = refused-at (asked-no 19 _ _ _ (paired-test ∙ unpaired))
 
     -- "Order number from 1 to the count? 20"
-    module _ (held : paired ≡ true) {n : ℕ} (is-count : n ≡ numberAt 2 head 30) {within : Bool} (is-within : within ≡ between 1 n number) where
+    module _ (held : paired ≡ true) {n : ℕ} (is-count : n ≡ orderCountIn head) {within : Bool} (is-within : within ≡ between 1 n number) where
       count-is : n ≡ ordersAt m i
       count-is = is-count ∙ orders-are m i k is-head
 
@@ -101,13 +102,13 @@ module _ (m : List ℕ) (i k : ℕ) (deed : Deed) (number : ℕ) {head : List �
               refused-at
               (asked-yes 19 _ _ _ (paired-test ∙ held) ∙ asked-yes 20 _ _ _ (within-is ∙ inside) ∙ asked-no 21 _ _ _ (fitting-is ∙ unfit))
 
-          pub handled-at : (sits : Sits m i k) (fee : Fee) → fee .0 ≡ numberAt 4 head 24 → fitting ≡ true
+          pub handled-at : (sits : Sits m i k) (fee : Fee) → fee .0 ≡ feeIn head → fitting ≡ true
               → ActAt m i k (onOrder deed number) (handlingOf deed (Handled fee (row .amount))) (withCodeAt m (k + (number - 1)) (codeOf (becomes deed)))
           unfolding onOrder shipmentIn
           handled-at sits fee is-fee fit =
               let at = k + (number - 1) in
               let stored = code-stored m at (codeOf (becomes deed)) in
-              let there : at < 2_048 = omega (arith, sits .room, from-one, to-count) in
+              let there : at < mostRows = omega (arith, sits .room, from-one, to-count) in
               let new = stored .row there (sits .enough) ∙ ap (λ state. withState state (rowOf (rowBytes m at))) (state-is-read-back (becomes deed) (becomes-in-range deed)) in
               rows-changed (handled-taken deed fee (row .amount))
               (row-of-shipment (omega arith) (omega (arith, from-one, to-count)) (stored .only there))

@@ -3,9 +3,8 @@
 use mathlib.Core.Path.{_≡_, refl, sym, ap, _∙_}
 use mathlib.Core.Bool.{Bool, true, false, not, cond, _&&_, _||_, or-comm}
 use mathlib.Core.List.{List}
-use Prim.Native.Nat.{ℕ, _+_, _*_, _-_}
+use Prim.Native.Nat.{ℕ, _*_, _-_}
 use lib.Dec.{leb, ltb}
-use lib.ListN.{getD, set}
 use Rattle.money.specs.declared.Money.the-variants.{K, O}
 use Rattle.money.specs.Money.{amount, fee}
 use Rattle.money.specs.declared.Amount.{Amount}
@@ -15,10 +14,10 @@ use Rattle.model.specs.Shipment.{Shipment, accepted, isWaiting, need, sumOver, 
 use Rattle.model.specs.Calls.{Refused, Done, IsPaired, Short, Outcome, leave, goneAhead, paired}
 use Rattle.model.specs.declared.Row.{Row}
 use Rattle.model.specs.declared.Stage.the-variants.{Paired}
-use Rattle.memory.specs.Number.{numberAt}
-use Rattle.memory.specs.Layout.{headAt, headBytes}
-use Rattle.memory.specs.Heads.{stageOf, stageByte, goAheadIn, acceptedAt}
+use Rattle.memory.specs.Layout.{headBytes}
+use Rattle.memory.specs.Heads.{feeIn, stageIn, goAheadIn, orderCountIn, transfersIn}
 use Rattle.memory.specs.Read.{rowsFrom, shipmentAt, Sits}
+use Rattle.memory.specs.Stored.{withStageAt, withGoAheadAt}
 use Rattle.book.specs.Place.{ActAt}
 use Rattle.memory.proofs.HeadFields.{waiting-is, go-ahead-is, accepted-is}
 use Rattle.book.proofs.Acting.{left-at, refused-at}
@@ -36,7 +35,7 @@ module _ (m : List ℕ) (i k : ℕ) (sits : Sits m i k) {head : List ℕ} (is-he
   s = shipmentAt m i k
 
   -- "Waiting? 15"
-  module _ {waiting : Bool} (is-waiting : waiting ≡ isWaiting (stageOf (getD head 28 0))) where
+  module _ {waiting : Bool} (is-waiting : waiting ≡ isWaiting (stageIn head)) where
     waiting-test : isWaiting (s .stage) ≡ waiting
     waiting-test = sym (is-waiting ∙ waiting-is m i k is-head)
 
@@ -48,7 +47,7 @@ module _ (m : List ℕ) (i k : ℕ) (sits : Sits m i k) {head : List ℕ} (is-he
     unfolding paired
     no-pairing-at other = refused-at (asked-no 15 _ _ _ (waiting-test ∙ other))
 
-    module _ (held : waiting ≡ true) {n : ℕ} (is-count : n ≡ numberAt 2 head 30) where
+    module _ (held : waiting ≡ true) {n : ℕ} (is-count : n ≡ orderCountIn head) where
       -- "Any faulty order? 16. None came before? 17."
       module _ {faulty : Bool} (is-faulty : faulty ≡ anyFaulty (rowsFrom m k n)) where
         faulty-test : faulty ≡ anyFaulty (s .rows)
@@ -70,7 +69,7 @@ module _ (m : List ℕ) (i k : ℕ) (sits : Sits m i k) {head : List ℕ} (is-he
               ∙ asked-yes 16 _ _ _ (sym faulty-test ∙ faults)
               ∙ asked-no 17 _ _ _ (ap not (sym came-test ∙ again)))
 
-          pub gone-ahead-at : came ≡ false → ActAt m i k goneAhead Done (set m (headAt i + 29) 1)
+          pub gone-ahead-at : came ≡ false → ActAt m i k goneAhead Done (withGoAheadAt m i)
           unfolding goneAhead
           gone-ahead-at first =
               go-ahead-changed sits refl
@@ -92,8 +91,8 @@ module _ (m : List ℕ) (i k : ℕ) (sits : Sits m i k) {head : List ℕ} (is-he
 
         module _ (free : may ≡ true) {missing-k amounts k-in : Amount} {missing-o fees o-in : Fee}
             (is-missing-k : missing-k ≡ amount (amounts .0 - k-in .0)) (is-missing-o : missing-o ≡ fee (fees .0 - o-in .0))
-            (are-amounts : amounts ≡ amount (sumOver (λ (row : Row). row .amount .0) (rowsFrom m k n))) (are-fees : fees ≡ fee (n * numberAt 4 head 24))
-            (is-k-in : k-in ≡ amount (numberAt 8 head (acceptedAt K))) (is-o-in : o-in ≡ fee (numberAt 8 head (acceptedAt O)))
+            (are-amounts : amounts ≡ amount (sumOver (λ (row : Row). row .amount .0) (rowsFrom m k n))) (are-fees : fees ≡ fee (n * feeIn head))
+            (is-k-in : k-in ≡ amount (transfersIn K head)) (is-o-in : o-in ≡ fee (transfersIn O head))
             {short : Bool} (is-short : short ≡ (ltb 0 (missing-k .0) || ltb 0 (missing-o .0))) where
           amount-is : missing-k .0 ≡ need K s - accepted K s
           amount-is =
@@ -121,7 +120,7 @@ module _ (m : List ℕ) (i k : ℕ) (sits : Sits m i k) {head : List ℕ} (is-he
               ∙ second-chosen _ _ _ (covered-test ∙ ap not some)
               ∙ (λ t. leave (Short (sym amount-is t) (sym fee-is t)) s))
 
-          pub paired-at : short ≡ false → ActAt m i k paired IsPaired (set m (headAt i + 28) (stageByte Paired))
+          pub paired-at : short ≡ false → ActAt m i k paired IsPaired (withStageAt m i Paired)
           unfolding paired
           paired-at none =
               stage-changed sits refl Paired

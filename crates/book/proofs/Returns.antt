@@ -9,14 +9,14 @@ use native.Mathlib.Numerals.{add-one}
 use native.Mathlib.Omega.{arith}
 use borrow.Author.Tests.{lt-ltb, leb-true, eqb-true, eqb-false}
 use lib.Dec.{ltb, eqb}
-use lib.ListN.{length, getD}
+use lib.ListN.{length}
 use Rattle.money.specs.Money.{WithinSum, sumOf, groszeIn}
 use Rattle.money.specs.declared.Money.{Money}
 use Rattle.money.specs.declared.Money.the-variants.{K, O}
 use Rattle.money.specs.declared.Sum.{Sum}
 use Rattle.money.proofs.Sums.{grosze-is}
 use Rattle.epe.proofs.QuestionLaws.{asked-no, asked-yes, asked-none}
-use Rattle.model.specs.Shipment.{byMoney, Shipment, isPaired, onlyIf, sumOver, worth, need}
+use Rattle.model.specs.Shipment.{mostRows, byMoney, Shipment, isPaired, onlyIf, sumOver, worth, need}
 use Rattle.model.specs.Calls.{Refused, Returned, leave, withRows, waitsOn, afterReturn, waiting, waitingOrders, isZprWithO, returnedBy}
 use Rattle.model.specs.Sound.{rowSound, rowsSound}
 use Rattle.model.specs.declared.Route.{Route}
@@ -24,10 +24,9 @@ use Rattle.model.specs.declared.Row.{Row}
 use Rattle.model.specs.declared.Stage.{Stage}
 use Rattle.model.proofs.Shipments.{only-if-true}
 use Rattle.model.proofs.SoundParts.{halves, in-order}
-use Rattle.memory.specs.Number.{numberAt}
 use Rattle.memory.specs.Layout.{headBytes, rowBytes}
 use Rattle.memory.specs.Rows.{rowOf}
-use Rattle.memory.specs.Heads.{stageOf, shipmentIn}
+use Rattle.memory.specs.Heads.{feeIn, stageIn, orderCountIn, shipmentIn}
 use Rattle.memory.specs.Read.{rowsFrom, ordersAt, shipmentAt, Sits}
 use Rattle.book.specs.Place.{ActAt}
 use Rattle.book.specs.Waits.{worthWaiting, ordersWaiting, RowCleared, RowsReturned, Cleared}
@@ -195,15 +194,15 @@ module _ (m : List ℕ) (i k : ℕ) {head : List ℕ} (is-head : head ≡ headBy
   abbrev s : Shipment
   s = shipmentAt m i k
 
-  module _ {n : ℕ} (is-count : n ≡ numberAt 2 head 30) where
+  module _ {n : ℕ} (is-count : n ≡ orderCountIn head) where
     count-is : n ≡ ordersAt m i
     count-is = is-count ∙ orders-are m i k is-head
 
-    pub room-at : Sits m i k → k + n ≤ 2_048
+    pub room-at : Sits m i k → k + n ≤ mostRows
     room-at sits = omega (arith, count-is, sits .room)
 
   -- "Paired? 19"
-  module _ (route : Route) (money : Money) {paired : Bool} (is-paired : paired ≡ isPaired (stageOf (getD head 28 0))) where
+  module _ (route : Route) (money : Money) {paired : Bool} (is-paired : paired ≡ isPaired (stageIn head)) where
     paired-test : isPaired (s .stage) ≡ paired
     paired-test = sym (is-paired ∙ paired-is m i k is-head)
 
@@ -227,7 +226,7 @@ module _ (m : List ℕ) (i k : ℕ) {head : List ℕ} (is-head : head ≡ headBy
             ∙ asked-yes 22 _ _ _ (ap not (sym is-barred ∙ free))
             ∙ asked-no 23 _ _ _ (ap (ltb 0) nothing))
 
-        module _ {fee : ℕ} (is-fee : fee ≡ numberAt 4 head 24) {worth-nothing : Bool} (is-worth : worth-nothing ≡ byMoney money false (eqb fee 0)) where
+        module _ {fee : ℕ} (is-fee : fee ≡ feeIn head) {worth-nothing : Bool} (is-worth : worth-nothing ≡ byMoney money false (eqb fee 0)) where
           fee-there : fee ≡ s .fee
           fee-there = is-fee ∙ fee-is m i k is-head
 
@@ -238,14 +237,14 @@ module _ (m : List ℕ) (i k : ℕ) {head : List ℕ} (is-head : head ≡ headBy
           unfolding waiting
           worthless-at h = nothing-to-return (worthless route money (s .fee) (s .rows) (worth-there ∙ h))
 
-          pub waiting-within : {n : ℕ} → n ≡ numberAt 2 head 30 → Sits m i k → WithinSum (worthWaiting route money fee (rowsFrom m k n))
+          pub waiting-within : {n : ℕ} → n ≡ orderCountIn head → Sits m i k → WithinSum (worthWaiting route money fee (rowsFrom m k n))
           unfolding waiting shipmentIn
           waiting-within is-count sits =
               let moneys = in-order s (sits .sound) .moneys money in
               let all-needed = only-if-true (isPaired (s .stage)) (need money s) (paired-test ∙ held) in
               rw (count-is is-count, fee-there) (omega (arith, waits-below route money s, all-needed, moneys .covered, moneys .accepted-fits))
 
-          module _ (worth-it : worth-nothing ≡ false) {n : ℕ} (is-count : n ≡ numberAt 2 head 30) (sits : Sits m i k)
+          module _ (worth-it : worth-nothing ≡ false) {n : ℕ} (is-count : n ≡ orderCountIn head) (sits : Sits m i k)
               {m′ : List ℕ} {found : Waits} (cleared : Cleared route money fee k n m m′ found) where
             sum-is : waiting route money s ≡ groszeIn (found .sum)
             unfolding waiting shipmentIn

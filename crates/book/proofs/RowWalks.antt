@@ -12,14 +12,15 @@ use Rattle.text.specs.Bytes.{between}
 use Rattle.text.proofs.Branches.{and-left, and-right, either-way}
 use Rattle.money.specs.Money.{orderCap, WithinSum}
 use Rattle.money.specs.declared.Amount.{Amount}
-use Rattle.model.specs.Shipment.{sumOver, isFaulty, anyFaulty}
+use Rattle.model.specs.Shipment.{mostRows, sumOver, isFaulty, anyFaulty}
 use Rattle.model.specs.Sound.{faultInRange, beforePairing, rowSound, rowsSound}
 use Rattle.model.specs.declared.Row.{Row}
 use Rattle.model.specs.declared.Stage.the-variants.{Waiting}
 use Rattle.memory.specs.Layout.{rowBytes}
-use Rattle.memory.specs.Rows.{stateOf, rowOf}
+use Rattle.memory.specs.States.{stateOf}
+use Rattle.memory.specs.Rows.{rowOf}
 use Rattle.memory.specs.Read.{rowsFrom}
-use Rattle.memory.proofs.RowLaws.{faulty-by-code}
+use Rattle.memory.proofs.StateLaws.{faulty-by-code}
 use Rattle.sound.proofs.ReadLaws.{rows-on, rows-done}
 
 abbrev amountIn : Row → ℕ
@@ -76,7 +77,7 @@ module _ {m : List ℕ} {k n : ℕ} where
     adding-done done = omega (arith, ap (sumOver amountIn) (rows-done m i left done))
 
     -- so many amounts of four bytes each are a sum
-    pub adding-within : n ≤ 2_048 → WithinSum total
+    pub adding-within : n ≤ mostRows → WithinSum total
     adding-within few = omega arith
 
   module _ {bits i left : ℕ} (going : Looking m k n bits i left) where

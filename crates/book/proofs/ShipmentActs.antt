@@ -3,20 +3,19 @@
 use mathlib.Core.Path.{_≡_, refl, sym, ap, _∙_}
 use mathlib.Core.Bool.{Bool, true, false}
 use mathlib.Core.List.{List}
-use Prim.Native.Nat.{ℕ, _+_, _≤_, _<_}
+use Prim.Native.Nat.{ℕ, _+_}
 use native.Mathlib.Omega.{arith}
 use borrow.Author.Tests.{leb-true}
-use lib.ListN.{getD, set}
 use Rattle.money.specs.Money.{sumCap, isSum}
 use Rattle.money.specs.declared.Money.{Money}
 use Rattle.epe.proofs.QuestionLaws.{asked-no, asked-yes, asked-none}
 use Rattle.model.specs.Shipment.{Shipment, accepted, isWaiting}
 use Rattle.model.specs.Calls.{Refused, Done, transferred, closed}
 use Rattle.model.specs.declared.Stage.the-variants.{Closed}
-use Rattle.memory.specs.Number.{numberAt, withNumber}
-use Rattle.memory.specs.Layout.{headAt, headBytes}
-use Rattle.memory.specs.Heads.{stageOf, stageByte, acceptedAt}
+use Rattle.memory.specs.Layout.{headBytes}
+use Rattle.memory.specs.Heads.{stageIn, transfersIn}
 use Rattle.memory.specs.Read.{shipmentAt, Sits}
+use Rattle.memory.specs.Stored.{withStageAt, withTransfersAt}
 use Rattle.book.specs.Place.{ActAt}
 use Rattle.memory.proofs.HeadFields.{waiting-is, accepted-is}
 use Rattle.book.proofs.Acting.{refused-at}
@@ -27,7 +26,7 @@ module _ (m : List ℕ) (i k : ℕ) (sits : Sits m i k) {head : List ℕ} (is-he
   s = shipmentAt m i k
 
   -- "Total accepted for that money still at most 9,999,999,999,999? 14"
-  module _ (money : Money) (amount : ℕ) {before : ℕ} (is-before : before ≡ numberAt 8 head (acceptedAt money)) where
+  module _ (money : Money) (amount : ℕ) {before : ℕ} (is-before : before ≡ transfersIn money head) where
     before-is : before ≡ accepted money s
     before-is = is-before ∙ accepted-is m i k is-head money
 
@@ -39,14 +38,14 @@ module _ (m : List ℕ) (i k : ℕ) (sits : Sits m i k) {head : List ℕ} (is-he
     too-much-at over = refused-at (asked-no 14 _ _ _ (total-is ∙ over))
 
     pub transferred-at : isSum (before + amount) ≡ true
-        → ActAt m i k (transferred money amount) Done (withNumber 8 m (headAt i + acceptedAt money) (before + amount))
+        → ActAt m i k (transferred money amount) Done (withTransfersAt m i money (before + amount))
     unfolding transferred
     transferred-at within =
         let low = leb-true (before + amount) sumCap within in
         rw before-is (accepted-changed sits refl money amount (omega (arith, before-is)) (asked-yes 14 _ _ _ (total-is ∙ within) ∙ asked-none _ _))
 
   -- "Waiting? 15"
-  module _ {waiting : Bool} (is-waiting : waiting ≡ isWaiting (stageOf (getD head 28 0))) where
+  module _ {waiting : Bool} (is-waiting : waiting ≡ isWaiting (stageIn head)) where
     waiting-test : isWaiting (s .stage) ≡ waiting
     waiting-test = sym (is-waiting ∙ waiting-is m i k is-head)
 
@@ -54,6 +53,6 @@ module _ (m : List ℕ) (i k : ℕ) (sits : Sits m i k) {head : List ℕ} (is-he
     unfolding closed
     not-closed-at other = refused-at (asked-no 15 _ _ _ (waiting-test ∙ other))
 
-    pub closed-at : waiting ≡ true → ActAt m i k closed Done (set m (headAt i + 28) (stageByte Closed))
+    pub closed-at : waiting ≡ true → ActAt m i k closed Done (withStageAt m i Closed)
     unfolding closed
     closed-at held = stage-changed sits refl Closed (asked-yes 15 _ _ _ (waiting-test ∙ held) ∙ asked-none _ _)

@@ -7,17 +7,16 @@ use Prim.Native.Nat.{ℕ, _+_, _-_, _≤_, _<_}
 use native.Mathlib.Omega.{arith}
 use borrow.Author.Tests.{lt-ltb}
 use lib.Dec.{ltb}
-use lib.ListN.{getD}
 use Rattle.money.specs.declared.Money.{Money}
 use Rattle.money.specs.Money.{WithinSum}
 use Rattle.epe.proofs.QuestionLaws.{asked-no, asked-yes, asked-none}
 use Rattle.model.specs.Shipment.{Shipment, accepted, returned, isWaiting, isPaired, onlyIf, need, needOncePaired, free}
 use Rattle.model.specs.Calls.{Refused, Returned, surplusReturned}
 use Rattle.model.proofs.SoundParts.{in-order}
-use Rattle.memory.specs.Number.{numberAt, withNumber}
-use Rattle.memory.specs.Layout.{headAt, headBytes}
-use Rattle.memory.specs.Heads.{stageOf, acceptedAt, returnedAt}
+use Rattle.memory.specs.Layout.{headBytes}
+use Rattle.memory.specs.Heads.{stageIn, transfersIn, surplusIn}
 use Rattle.memory.specs.Read.{shipmentAt, Sits}
+use Rattle.memory.specs.Stored.{withSurplusAt}
 use Rattle.book.specs.Place.{ActAt}
 use Rattle.memory.proofs.HeadFields.{waiting-is, paired-is, accepted-is, returned-is}
 use Rattle.book.proofs.Acting.{refused-at}
@@ -28,7 +27,7 @@ module _ (m : List ℕ) (i k : ℕ) (sits : Sits m i k) {head : List ℕ} (is-he
   s = shipmentAt m i k
 
   -- "less the need once Paired"
-  module _ (money : Money) {paired : Bool} (is-paired : paired ≡ isPaired (stageOf (getD head 28 0))) where
+  module _ (money : Money) {paired : Bool} (is-paired : paired ≡ isPaired (stageIn head)) where
     paired-test : paired ≡ isPaired (s .stage)
     paired-test = is-paired ∙ paired-is m i k is-head
 
@@ -38,7 +37,7 @@ module _ (m : List ℕ) (i k : ℕ) (sits : Sits m i k) {head : List ℕ} (is-he
     pub needed : {n : ℕ} → paired ≡ true → n ≡ need money s → n ≡ needOncePaired money s
     needed held is-need = is-need ∙ ap (λ t. onlyIf t (need money s)) (sym held ∙ paired-test)
 
-  module _ (money : Money) {received needed-now : ℕ} (is-received : received ≡ numberAt 8 head (acceptedAt money))
+  module _ (money : Money) {received needed-now : ℕ} (is-received : received ≡ transfersIn money head)
       (is-needed : needed-now ≡ needOncePaired money s) where
     received-is : received ≡ accepted money s
     received-is = is-received ∙ accepted-is m i k is-head money
@@ -46,7 +45,7 @@ module _ (m : List ℕ) (i k : ℕ) (sits : Sits m i k) {head : List ℕ} (is-he
     pub needed-within : needed-now ≤ received
     needed-within = omega (arith, received-is, is-needed, in-order s (sits .sound) .moneys money .covered)
 
-    module _ {gone : ℕ} (is-gone : gone ≡ numberAt 8 head (returnedAt money)) where
+    module _ {gone : ℕ} (is-gone : gone ≡ surplusIn money head) where
       gone-is : gone ≡ returned money s
       gone-is = is-gone ∙ returned-is m i k is-head money
 
@@ -58,7 +57,7 @@ module _ (m : List ℕ) (i k : ℕ) (sits : Sits m i k) {head : List ℕ} (is-he
       free-is = rw (received-is, is-needed, gone-is)
 
   -- "For ZWR: not Waiting? 24. Anything above zero to return? 23."
-  module _ (money : Money) {waiting : Bool} (is-waiting : waiting ≡ isWaiting (stageOf (getD head 28 0))) where
+  module _ (money : Money) {waiting : Bool} (is-waiting : waiting ≡ isWaiting (stageIn head)) where
     waiting-test : isWaiting (s .stage) ≡ waiting
     waiting-test = sym (is-waiting ∙ waiting-is m i k is-head)
 
@@ -72,7 +71,7 @@ module _ (m : List ℕ) (i k : ℕ) (sits : Sits m i k) {head : List ℕ} (is-he
       no-surplus-at nothing =
           refused-at (asked-yes 24 _ _ _ (ap not (waiting-test ∙ other)) ∙ asked-no 23 _ _ _ (ap (ltb 0) (sym is-surplus ∙ nothing)))
 
-      module _ {gone : ℕ} (is-gone : gone ≡ numberAt 8 head (returnedAt money)) where
+      module _ {gone : ℕ} (is-gone : gone ≡ surplusIn money head) where
         before-is : gone ≡ returned money s
         before-is = is-gone ∙ returned-is m i k is-head money
 
@@ -82,7 +81,7 @@ module _ (m : List ℕ) (i k : ℕ) (sits : Sits m i k) {head : List ℕ} (is-he
             let moneys = in-order s (sits .sound) .moneys money in
             omega (arith, before-is, is-surplus, moneys .accepted-fits, moneys .covered)
 
-        pub surplus-at : 0 < surplus → ActAt m i k (surplusReturned money) (Returned surplus 0) (withNumber 8 m (headAt i + returnedAt money) (gone + surplus))
+        pub surplus-at : 0 < surplus → ActAt m i k (surplusReturned money) (Returned surplus 0) (withSurplusAt m i money (gone + surplus))
         unfolding surplusReturned
         surplus-at some =
             rw (before-is, is-surplus)

@@ -9,12 +9,12 @@ use Rattle.epe.specs.Name.{nameInForm}
 use Rattle.epe.specs.Accepted.{EachInRange}
 use Rattle.epe.specs.Kept.{orderIn, ordersIn}
 use Rattle.epe.specs.declared.name.Name.{Name}
-use Rattle.model.specs.Shipment.{Shipment}
+use Rattle.model.specs.Shipment.{mostShipments, mostRows, Shipment}
 use Rattle.model.specs.Calls.{Call, Answer, Accepted}
 use Rattle.model.specs.Book.{Book, Step, stay, refusingIn, rowsIn, enteredRow, roomQuestions, step}
 use Rattle.model.specs.declared.Row.{Row}
 use Rattle.memory.specs.Layout.{size}
-use Rattle.memory.specs.Read.{shipmentsIn, flagsFrom, bookIn, soundIn}
+use Rattle.memory.specs.Read.{flagsFrom, shipmentsIn, bookIn, soundIn}
 use Rattle.book.specs.Does.{Does}
 
 -- The row of the order that a table keeps for it, where the first is row k.
@@ -25,9 +25,9 @@ keptRow k kept r = enteredRow (orderIn kept (r - k))
 pub record Fits (m : List ℕ) (i k : ℕ) (name : Name) (fee n : ℕ) (kept : List ℕ) : Type 0 where
   pub enough : size ≤ length m
   pub last : i ≡ shipmentsIn m
-  pub few : i < 32
+  pub few : i < mostShipments
   pub from : k ≡ rowsIn (bookIn m)
-  pub room : k + n ≤ 2_048
+  pub room : k + n ≤ mostRows
   pub in-range : EachInRange (ordersIn kept 0 n)
   pub in-form : nameInForm name ≡ true
   pub fee-fits : fee < 2 ^ 32
@@ -52,7 +52,7 @@ pub record Opened (m : List ℕ) (i : ℕ) (name : Name) (fee : ℕ) : Type 0 wh
 
 -- Its contents passed: a table keeps its n orders, each in range, unless they are more than a book has rows.
 pub record Counted (n : ℕ) (kept : List ℕ) : Type 0 where
-  pub in-range : n ≤ 2_048 → EachInRange (ordersIn kept 0 n)
+  pub in-range : n ≤ mostRows → EachInRange (ordersIn kept 0 n)
 
 -- What an intake promises of which only these questions and the room are left.
 pub record DoesEnter (left : List Question) (s : Shipment) (n faulty : ℕ) (before : List ℕ) (answer : Answer) (after : List ℕ) : Type 0 where

@@ -9,8 +9,9 @@ use Rattle.model.specs.Calls.{waitsOn, afterReturn}
 use Rattle.model.specs.declared.Route.{Route}
 use Rattle.model.specs.declared.Row.{Row}
 use Rattle.memory.specs.Layout.{rowBytes}
-use Rattle.memory.specs.Rows.{rowOf, RowReturned}
+use Rattle.memory.specs.Rows.{rowOf}
 use Rattle.memory.specs.Read.{rowsFrom}
+use Rattle.memory.specs.Returns.{RowReturned}
 use Rattle.book.specs.declared.route.Taken.{Taken}
 use Rattle.book.specs.declared.route.Waits.{Waits}
 use Rattle.book.specs.Place.{RowsStored}

@@ -13,6 +13,8 @@ use epe::kept::order_in;
 use epe::name::Name;
 use epe::profile::Profile;
 use epe::verdict::Verdict;
+use memory::MOST_ROWS;
+use memory::MOST_SHIPMENTS;
 use memory::enter::enter_head;
 use memory::enter::enter_order;
 use memory::head::head_bytes;
@@ -32,6 +34,7 @@ ghost use Rattle.epe.specs.Steps.{statedOf};
 ghost use Rattle.epe.specs.Accepted.{EachInRange};
 ghost use Rattle.epe.specs.Kept.{ordersIn};
 ghost use Rattle.epe.specs.declared.verdict.Verdict.the-variants.{Passed};
+ghost use Rattle.model.specs.Shipment.{mostShipments, mostRows};
 ghost use Rattle.model.specs.Calls.{Intake};
 ghost use Rattle.model.specs.Book.{feeFor, isUnknown, rowsIn, enteredRow, newShipment, entered};
 ghost use Rattle.memory.specs.Layout.{size};
@@ -43,7 +46,7 @@ ghost use Rattle.book.specs.Entering.{keptRow, Fits, ShipmentEntered, Op
 
 // How many rows n shipments have.
 fn rows_of(memory: &[u8], n: usize) -> usize
-    requires { ⌜ (n ≤ 32) × (size ≤ length (now memory)) ⌝ }
+    requires { ⌜ (n ≤ mostShipments) × (size ≤ length (now memory)) ⌝ }
     ensures { λ r. ⌜ r ≡ rowsIn (shipmentsFrom (now (memory .entry)) 0 0 n) ⌝ }
 {
     let mut i = 0;
@@ -59,7 +62,7 @@ fn rows_of(memory: &[u8], n: usize) -> usize
 
 // Is an identifier of none of n shipments?
 fn is_unknown(memory: &[u8], ident: Ident, n: usize) -> bool
-    requires { ⌜ (n ≤ 32) × (size ≤ length (now memory)) ⌝ }
+    requires { ⌜ (n ≤ mostShipments) × (size ≤ length (now memory)) ⌝ }
     ensures { λ r. ⌜ r ≡ isUnknown ident (shipmentsFrom (now (memory .entry)) 0 0 n) ⌝ }
 {
     match find_called(memory, ident, n) {
@@ -71,7 +74,7 @@ fn is_unknown(memory: &[u8], ident: Ident, n: usize) -> bool
 
 // Enters the first n orders that a table keeps, in the rows from the k-th on.
 fn enter_orders(memory: &mut [u8], k: usize, n: usize, kept: &[u64])
-    requires { ⌜ (k + n ≤ 2_048) × (size ≤ length (now memory)) × EachInRange (ordersIn (now kept) 0 n) ⌝ }
+    requires { ⌜ (k + n ≤ mostRows) × (size ≤ length (now memory)) × EachInRange (ordersIn (now kept) 0 n) ⌝ }
     ensures { λ _. ⌜ RowsStored (keptRow k (now (kept .entry))) k n (now (memory .entry)) (now (memory .exit)) ⌝ }
 {
     for done in 0..n {
@@ -102,11 +105,11 @@ fn enter_behind(
     requires { ⌜ Opened (now memory) i name (fee .0) × Counted n (now kept) ⌝ }
     ensures { λ r. ⌜ DoesEnter [] (newShipment name (fee .0) (map enteredRow (ordersIn (now (kept .entry)) 0 n))) n faulty (now (memory .entry)) (acceptanceOf r) (now (memory .exit)) ⌝ }
 {
-    if 32 <= i {
+    if MOST_SHIPMENTS <= i {
         return Acceptance::Refused(refusals::SHIPMENTS);
     }
     let k = rows_of(memory, i);
-    if ((2_048 - k) as u64) < n {
+    if ((MOST_ROWS - k) as u64) < n {
         return Acceptance::Refused(refusals::ROWS);
     }
     enter(memory, i, k, name, fee, n, kept);
@@ -135,7 +138,7 @@ fn take_records(
     ensures { λ r. ⌜ DoesEnter (contentsQuestions profile (now (file .entry))) (entered profile name (orders (now (file .entry)))) (length (orders (now (file .entry)))) (faultyCount (orders (now (file .entry)))) (now (memory .entry)) (acceptanceOf r) (now (memory .exit)) ⌝ }
 {
     let fee = fee_of(profile, name.kind);
-    let mut kept = [0u64; 2_048];
+    let mut kept = [0u64; MOST_ROWS];
     match judge_records(profile.fields, stated.count, stated.sum, file, &mut kept) {
         Judged::Accepted(n, faulty) => enter_behind(memory, i, name, fee, n, faulty, &kept),
         Judged::Refused(number) => Acceptance::Refused(number),

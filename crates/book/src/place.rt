@@ -10,6 +10,7 @@ use sound::is_sound;
 ghost use mathlib.Core.Path.{_≡_};
 ghost use Prim.Native.Nat.{_≤_};
 ghost use lib.ListN.{length};
+ghost use Rattle.model.specs.Shipment.{mostShipments};
 ghost use Rattle.memory.specs.Layout.{size};
 ghost use Rattle.book.specs.Place.{calledIn, namedIn, placeFrom, placeIn};
 
@@ -22,7 +23,7 @@ pub enum Place {
 
 // The shipment of an identifier, among n.
 pub fn find_called(memory: &[u8], ident: Ident, n: usize) -> Place
-    requires { ⌜ (n ≤ 32) × (size ≤ length (now memory)) ⌝ }
+    requires { ⌜ (n ≤ mostShipments) × (size ≤ length (now memory)) ⌝ }
     ensures { λ r. ⌜ r ≡ placeFrom (calledIn ident) (now (memory .entry)) 0 0 n ⌝ }
 {
     let mut i = 0;
@@ -42,7 +43,7 @@ pub fn find_called(memory: &[u8], ident: Ident, n: usize) -> Place
 
 // The shipment of a name, among n.
 pub fn find_named(memory: &[u8], name: Name, n: usize) -> Place
-    requires { ⌜ (n ≤ 32) × (size ≤ length (now memory)) ⌝ }
+    requires { ⌜ (n ≤ mostShipments) × (size ≤ length (now memory)) ⌝ }
     ensures { λ r. ⌜ r ≡ placeFrom (namedIn name) (now (memory .entry)) 0 0 n ⌝ }
 {
     let mut i = 0;

@@ -7,9 +7,9 @@ use memory::head::is_paired;
 use memory::head::orders;
 use memory::row::amount;
 use memory::row::row_bytes;
-use memory::row::store_return;
-use memory::row::wait_of;
-use memory::row::wait_table;
+use memory::wait::store_return;
+use memory::wait::wait_of;
+use memory::wait::wait_table;
 use model::Route;
 use money::Fee;
 use money::Money;
@@ -20,12 +20,13 @@ ghost use Prim.Native.Nat.{_+_, _≤_, _<_, _^_};
 ghost use lib.Dec.{eqb};
 ghost use lib.ListN.{length};
 ghost use Rattle.money.specs.Money.{WithinSum, groszeIn, moneyOfSum};
-ghost use Rattle.model.specs.Shipment.{byMoney, worth};
+ghost use Rattle.model.specs.Shipment.{mostRows, byMoney, worth};
 ghost use Rattle.model.specs.Calls.{Returned, isZprWithO, returnedBy};
 ghost use Rattle.model.specs.declared.Route.{Route};
-ghost use Rattle.memory.specs.Layout.{size};
-ghost use Rattle.memory.specs.Rows.{rowOf, WaitTable, IsWaitTable};
+ghost use Rattle.memory.specs.Layout.{size, IsRow};
+ghost use Rattle.memory.specs.Rows.{rowOf};
 ghost use Rattle.memory.specs.Read.{rowsFrom, Sits};
+ghost use Rattle.memory.specs.Returns.{WaitTable, IsWaitTable};
 ghost use Rattle.book.specs.Answers.{returningOf};
 ghost use Rattle.book.specs.Place.{ActAt};
 ghost use Rattle.book.specs.Waits.{worthWaiting, RowCleared, Cleared};
@@ -44,7 +45,7 @@ pub struct Taken {
 
 // What an order is worth, in grosze: its amount in K, the fee in O.
 fn worth_of(row: &[u8], money: Money, fee: Fee) -> u64
-    requires { ⌜ (length (now row) ≡ 8) × (fee .0 < 2 ^ 32) ⌝ }
+    requires { ⌜ IsRow (now row) × (fee .0 < 2 ^ 32) ⌝ }
     ensures { λ r. ⌜ (r ≡ worth money (fee .0) (rowOf (now (row .entry)))) × (r < 2 ^ 32) ⌝ }
 {
     match money {
@@ -62,7 +63,7 @@ fn clear_row(
     fee: Fee,
     table: &[u8],
 ) -> Taken
-    requires { ⌜ (k < 2_048) × (size ≤ length (now memory)) × (fee .0 < 2 ^ 32) × IsWaitTable (now table) × (taken .worth < 2 ^ 60) × (taken .count < 2 ^ 60) ⌝ }
+    requires { ⌜ (k < mostRows) × (size ≤ length (now memory)) × (fee .0 < 2 ^ 32) × IsWaitTable (now table) × (taken .worth < 2 ^ 60) × (taken .count < 2 ^ 60) ⌝ }
     ensures { λ r. ⌜ ((route : Route) → WaitTable route money (now (table .entry)) → RowCleared route money (fee .0) k taken (now (memory .entry)) (now (memory .exit)) r) × (r .worth < taken .worth + 2 ^ 34) × (r .count ≤ taken .count + 2) ⌝ }
 {
     let worth = worth_of(row_bytes(memory, k), money, fee);
@@ -75,7 +76,7 @@ fn clear_row(
 // Ends every wait of a money on a route in the n rows from the k-th on, and answers what waited.
 // A row asks no question: it counts a wait by what that adds to the byte of state, and the sums are divided by it at the end.
 fn clear(memory: &mut [u8], k: usize, n: usize, route: Route, money: Money, fee: Fee) -> Waits
-    requires { ⌜ (k + n ≤ 2_048) × (size ≤ length (now memory)) × (fee .0 < 2 ^ 32) × WithinSum (worthWaiting route money (fee .0) (rowsFrom (now memory) k n)) ⌝ }
+    requires { ⌜ (k + n ≤ mostRows) × (size ≤ length (now memory)) × (fee .0 < 2 ^ 32) × WithinSum (worthWaiting route money (fee .0) (rowsFrom (now memory) k n)) ⌝ }
     ensures { λ r. ⌜ Cleared route money (fee .0) k n (now (memory .entry)) (now (memory .exit)) r ⌝ }
 {
     let table = wait_table(route, money);

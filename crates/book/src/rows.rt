@@ -9,7 +9,7 @@ ghost use mathlib.Core.Bool.{true};
 ghost use Prim.Native.Nat.{_+_, _≤_};
 ghost use lib.ListN.{length};
 ghost use Rattle.money.specs.Money.{amount, WithinSum};
-ghost use Rattle.model.specs.Shipment.{sumOver, anyFaulty};
+ghost use Rattle.model.specs.Shipment.{mostRows, sumOver, anyFaulty};
 ghost use Rattle.model.specs.Sound.{rowsSound};
 ghost use Rattle.model.specs.declared.Row.{Row};
 ghost use Rattle.model.specs.declared.Stage.the-variants.{Waiting};
@@ -18,7 +18,7 @@ ghost use Rattle.memory.specs.Read.{rowsFrom};
 
 // The sum of the amounts of the n rows from the k-th on.
 pub fn amounts_in(memory: &[u8], k: usize, n: usize) -> Amount
-    requires { ⌜ (k + n ≤ 2_048) × (size ≤ length (now memory)) ⌝ }
+    requires { ⌜ (k + n ≤ mostRows) × (size ≤ length (now memory)) ⌝ }
     ensures { λ r. ⌜ (r ≡ amount (sumOver (λ (row : Row). row .amount .0) (rowsFrom (now (memory .entry)) k n))) × WithinSum (r .0) ⌝ }
 {
     let mut sum = Amount::sum(0);
@@ -34,7 +34,7 @@ pub fn amounts_in(memory: &[u8], k: usize, n: usize) -> Amount
 
 // Is any of the n rows from the k-th on Faulty? The shipment is Waiting, so that all others are Open, and Open has no bit in its byte.
 pub fn has_faulty_in(memory: &[u8], k: usize, n: usize) -> bool
-    requires { ⌜ (k + n ≤ 2_048) × (size ≤ length (now memory)) × (rowsSound Waiting (rowsFrom (now memory) k n) ≡ true) ⌝ }
+    requires { ⌜ (k + n ≤ mostRows) × (size ≤ length (now memory)) × (rowsSound Waiting (rowsFrom (now memory) k n) ≡ true) ⌝ }
     ensures { λ r. ⌜ r ≡ anyFaulty (rowsFrom (now (memory .entry)) k n) ⌝ }
 {
     let mut bits = 0;

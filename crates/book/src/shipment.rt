@@ -6,6 +6,7 @@ use crate::rows::amounts_in;
 use crate::rows::has_faulty_in;
 use memory::head::accepted;
 use memory::head::amounts_accepted;
+use memory::head::fees;
 use memory::head::fees_accepted;
 use memory::head::has_go_ahead;
 use memory::head::head_bytes;
@@ -18,18 +19,17 @@ use model::Stage;
 use money::Amount;
 use money::Fee;
 use money::Sum;
-use sound::shipment::fees;
 ghost use mathlib.Core.Path.{_≡_};
 ghost use mathlib.Core.Bool.{true, not, _||_};
 ghost use Prim.Native.Nat.{_+_, _≤_};
 ghost use lib.Dec.{ltb};
 ghost use lib.ListN.{length};
 ghost use Rattle.money.specs.Money.{WithinSum, groszeIn, moneyOfSum};
-ghost use Rattle.model.specs.Shipment.{anyFaulty};
+ghost use Rattle.model.specs.Shipment.{mostRows, anyFaulty};
 ghost use Rattle.model.specs.Calls.{transferred, goneAhead, paired, closed};
 ghost use Rattle.model.specs.Sound.{rowsSound};
 ghost use Rattle.model.specs.declared.Stage.the-variants.{Waiting};
-ghost use Rattle.memory.specs.Layout.{size};
+ghost use Rattle.memory.specs.Layout.{size, IsHead};
 ghost use Rattle.memory.specs.Heads.{goAheadIn};
 ghost use Rattle.memory.specs.Read.{rowsFrom, Sits};
 ghost use Rattle.book.specs.Answers.{completionOf, pairingOf};
@@ -83,7 +83,7 @@ pub fn go_ahead_at(memory: &mut [u8], i: usize, k: usize) -> Completion
 
 // Has the shipment of this head and the n rows from the k-th on a go-ahead, or no faults?
 fn may_pair(head: &[u8], memory: &[u8], k: usize, n: usize) -> bool
-    requires { ⌜ (length (now head) ≡ 64) × (k + n ≤ 2_048) × (size ≤ length (now memory)) × (rowsSound Waiting (rowsFrom (now memory) k n) ≡ true) ⌝ }
+    requires { ⌜ IsHead (now head) × (k + n ≤ mostRows) × (size ≤ length (now memory)) × (rowsSound Waiting (rowsFrom (now memory) k n) ≡ true) ⌝ }
     ensures { λ r. ⌜ r ≡ (goAheadIn (now (head .entry)) || not (anyFaulty (rowsFrom (now (memory .entry)) k n))) ⌝ }
 {
     has_go_ahead(head) || !has_faulty_in(memory, k, n)

@@ -1,7 +1,7 @@
 -- An order and a shipment entered are read back, and nothing else moves.
 -- Assumes nothing.
 use mathlib.Core.Path.{_≡_, refl, ap, _∙_}
-use mathlib.Core.Bool.{true, false, _&&_}
+use mathlib.Core.Bool.{true, _&&_}
 use mathlib.Core.List.{List, [], _++_, append-nil}
 use Prim.Native.Nat.{ℕ, zero, suc, _+_, _^_, _<_, _≤_}
 use native.Mathlib.Nat.{add-zero, zero-add}
@@ -17,6 +17,7 @@ use Rattle.epe.specs.Ident.{identInForm}
 use Rattle.epe.specs.Name.{nameInForm}
 use Rattle.epe.specs.declared.name.Name.{Name}
 use Rattle.epe.specs.declared.record.Order.{Order}
+use Rattle.model.specs.Shipment.{mostShipments, mostRows}
 use Rattle.model.specs.Book.{enteredRow, newShipment}
 use Rattle.model.specs.Sound.{faultInRange}
 use Rattle.model.specs.declared.Row.{Row}
@@ -24,24 +25,26 @@ use Rattle.model.specs.declared.State.{State}
 use Rattle.model.specs.declared.State.the-variants.{Open, Faulty}
 use Rattle.model.proofs.SoundParts.{halves}
 use Rattle.memory.specs.Number.{numberAt, withNumber}
-use Rattle.memory.specs.Layout.{size, headAt, rowAt, headBytes, rowBytes, OnlyHead}
-use Rattle.memory.specs.Rows.{rowOf, codeOf, withCodeAt}
-use Rattle.memory.specs.Heads.{stageOf, flagsInForm, shipmentIn}
+use Rattle.memory.specs.Layout.{headSize, rowSize, headAt, rowAt, size, headBytes, rowBytes, IsHead, OnlyHead}
+use Rattle.memory.specs.States.{lastFault}
+use Rattle.memory.specs.Rows.{rowOf}
+use Rattle.memory.specs.Heads.{feeIn, stageOf, flagsInForm, orderCountIn, shipmentIn}
+use Rattle.memory.specs.Stored.{codeOf, withCodeAt}
 use Rattle.memory.specs.Enter.{OrderEntered, HeadEntered, fieldsOf, HeadStored}
 use Rattle.memory.proofs.Numbers.{stored-is-read}
-use Rattle.memory.proofs.Parts.{part-long, head-byte, head-byte-only, only-head-none, only-head-then}
-use Rattle.memory.proofs.Parts.{row-number, row-number-only, only-row-then}
-use Rattle.memory.proofs.RowLaws.{state-is-read-back, code-stored}
+use Rattle.memory.proofs.Parts.{part-long, head-byte, head-byte-only, only-head-none, only-head-then, only-row-then, row-number, row-number-only}
+use Rattle.memory.proofs.StateLaws.{state-is-read-back}
+use Rattle.memory.proofs.RowLaws.{code-stored}
 
 -- the state of an order as it is entered
-entered-in-range : (order : Order) → order .fault ≤ 10 → faultInRange (enteredRow order .state) ≡ true
+entered-in-range : (order : Order) → order .fault ≤ lastFault → faultInRange (enteredRow order .state) ≡ true
 entered-in-range order known =
     let fault = order .fault in
     cond-either (λ (state : State). faultInRange state ≡ true) (eqb fault 0) Open (Faulty fault true true) (λ none. refl)
-    (λ some. both-yes (leb 1 fault) (leb fault 10) (le-leb 1 fault (omega (arith, eqb-false fault 0 some))) (le-leb fault 10 known))
+    (λ some. both-yes (leb 1 fault) (leb fault lastFault) (le-leb 1 fault (omega (arith, eqb-false fault 0 some))) (le-leb fault lastFault known))
 
 -- its row: the amount, then the state
-module _ (order : Order) (k : ℕ) (m : List ℕ) (there : k < 2_048) (enough : size ≤ length m) where
+module _ (order : Order) (k : ℕ) (m : List ℕ) (there : k < mostRows) (enough : size ≤ length m) where
   abbrev amount-stored : List ℕ
   amount-stored = withNumber 4 m (rowAt k) (order .amount .0)
 
@@ -49,9 +52,9 @@ module _ (order : Order) (k : ℕ) (m : List ℕ) (there : k < 2_048) (enough : 
   unfolding rowBytes
   amount-there fits =
       ap (λ row. numberAt 4 row 0) (rw (add-zero (rowAt k)) at (row-number 4 m k 0 (order .amount .0) (omega arith)))
-      ∙ stored-is-read 4 (rowBytes m k) 0 (order .amount .0) .back (omega (arith, part-long m (rowAt k) 8 (omega arith))) fits
+      ∙ stored-is-read 4 (rowBytes m k) 0 (order .amount .0) .back (omega (arith, part-long m (rowAt k) rowSize (omega arith))) fits
 
-  pub order-entered : order .amount .0 < 2 ^ 32 → order .fault ≤ 10
+  pub order-entered : order .amount .0 < 2 ^ 32 → order .fault ≤ lastFault
       → OrderEntered order k m (withCodeAt amount-stored k (codeOf (enteredRow order .state)))
   unfolding rowOf
   order-entered fits known =
@@ -71,7 +74,7 @@ pub one-more : (a b : List ℕ) (j : ℕ) → j < length a → j < length b → 
 one-more a b j more room = rw (add-one j) (rw (zero-add j, zero-add (suc j)) at (paste-suc b 0 a j 0 (omega arith) more))
 
 pub record Storing (head : List ℕ) (j i : ℕ) (m m′ : List ℕ) : Type 0 where
-  pub within : j ≤ 64
+  pub within : j ≤ headSize
   pub bytes : headBytes m′ i ≡ take j head ++ drop j (headBytes m i)
   pub only : OnlyHead i m m′
 
@@ -79,25 +82,25 @@ module _ (head : List ℕ) (i : ℕ) (m : List ℕ) where
   pub storing-none : Storing head 0 i m m
   storing-none = record { within = omega arith; bytes = refl; only = only-head-none i m }
 
-  module _ (whole : length head ≡ 64) (few : i < 32) (enough : size ≤ length m) where
-    sixty-four : length (headBytes m i) ≡ 64
+  module _ (whole : IsHead head) (few : i < mostShipments) (enough : size ≤ length m) where
+    as-long-as : IsHead (headBytes m i)
     unfolding headBytes
-    sixty-four = part-long m (headAt i) 64 (omega arith)
+    as-long-as = part-long m (headAt i) headSize (omega arith)
 
-    pub storing-one-more : (j : ℕ) (m′ : List ℕ) → j < 64 → Storing head j i m m′ → Storing head (j + 1) i m (set m′ (headAt i + j) (getD head j 0))
+    pub storing-one-more : (j : ℕ) (m′ : List ℕ) → j < headSize → Storing head j i m m′ → Storing head (j + 1) i m (set m′ (headAt i + j) (getD head j 0))
     storing-one-more j m′ more so-far = record {
       within = omega arith;
       bytes =
           head-byte m′ i j (getD head j 0) more
           ∙ ap (λ bytes. set bytes j (getD head j 0)) (so-far .bytes)
-          ∙ one-more head (headBytes m i) j (omega arith) (omega (arith, sixty-four));
+          ∙ one-more head (headBytes m i) j (omega arith) (omega (arith, as-long-as));
       only = only-head-then i m m′ _ (so-far .only) (head-byte-only m′ i j (getD head j 0) more few);
     }
 
-    pub head-stored : (m′ : List ℕ) → Storing head 64 i m m′ → HeadStored head i m m′
+    pub head-stored : (m′ : List ℕ) → Storing head headSize i m m′ → HeadStored head i m m′
     head-stored m′ so-far =
-        let none : drop 64 (headBytes m i) ≡ [] = rw sixty-four at (drop-length (headBytes m i)) in
-        record { bytes = so-far .bytes ∙ rw (none, append-nil) (take-all 64 head (omega arith)); only = so-far .only }
+        let none : drop headSize (headBytes m i) ≡ [] = rw as-long-as at (drop-length (headBytes m i)) in
+        record { bytes = so-far .bytes ∙ ap (λ rest. take headSize head ++ rest) none ∙ append-nil (take headSize head) ∙ take-all headSize head (omega arith); only = so-far .only }
 
 -- a number behind a list
 number-behind : (width : ℕ) (a b : List ℕ) (q : ℕ) → numberAt width (a ++ b) (length a + q) ≡ numberAt width b q
@@ -136,7 +139,7 @@ module _ (name : Name) (fee n : ℕ) (long : length (name .ident .bytes) ≡ 17)
   unfolding shipmentIn numberAt stageOf fieldsOf
   shipment-there fits fee-fits rows =
       let date : numberAt 4 head 18 ≡ name .date .0 = number-there 4 1 ∙ omega (arith, fits .date) in
-      let fee-there : numberAt 4 head 24 ≡ fee = number-there 4 7 ∙ omega arith in
+      let fee-there : feeIn head ≡ fee = number-there 4 7 ∙ omega arith in
       λ i. record {
         name = record {
           ident = record { bytes = take-at (name .ident .bytes) (fieldsOf name fee n) 17 long i; len = byte-there 0 i };
@@ -158,10 +161,10 @@ module _ (name : Name) (fee n : ℕ) (long : length (name .ident .bytes) ≡ 17)
       → HeadEntered name fee n i m m′
   unfolding numberAt fieldsOf
   head-entered i m m′ in-form fee-fits n-fits stored =
-      let orders : numberAt 2 head 30 ≡ n = number-there 2 13 ∙ omega arith in
+      let orders : orderCountIn head ≡ n = number-there 2 13 ∙ omega arith in
       record {
         shipment = λ rows. ap (λ bytes. shipmentIn bytes rows) (stored .bytes) ∙ shipment-there (name-fits name in-form) fee-fits rows;
-        orders = ap (λ bytes. numberAt 2 bytes 30) (stored .bytes) ∙ orders;
+        orders = ap orderCountIn (stored .bytes) ∙ orders;
         flags = ap flagsInForm (stored .bytes) ∙ (λ j. leb (byte-there 11 j) 2 && leb (byte-there 12 j) 1);
         only = stored .only;
       }

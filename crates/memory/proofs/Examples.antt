@@ -11,7 +11,8 @@ use Rattle.model.specs.declared.Row.{Row}
 use Rattle.model.specs.declared.Stage.the-variants.{Paired}
 use Rattle.model.specs.declared.State.the-variants.{Open, Posted, Paid, Faulty, Undelivered, Withdrawn}
 use Rattle.memory.specs.Number.{numberAt}
-use Rattle.memory.specs.Rows.{stateOf, rowOf}
+use Rattle.memory.specs.States.{stateOf}
+use Rattle.memory.specs.Rows.{rowOf}
 use Rattle.memory.specs.Heads.{stageOf, shipmentIn}
 
 -- F 350, Paired after a go-ahead, three orders, K 17,650 and O 1,050 accepted, 100 of K returned

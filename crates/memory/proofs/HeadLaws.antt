@@ -7,7 +7,7 @@ use Prim.Native.Nat.{ℕ, zero, suc, _+_, _/_, _%_, _^_, _<_, _≤_}
 use native.Mathlib.Omega.{arith}
 use borrow.Author.Tests.{eqb-true}
 use lib.Dec.{eqb, leb}
-use lib.ListN.{length, getD, set, take}
+use lib.ListN.{getD, set, take}
 use lib.Seq.{take-set-le, getD-set-same, getD-set-other}
 use Rattle.text.proofs.Branches.{either-way, and-left, and-right, both-yes}
 use Rattle.money.specs.declared.Money.{Money}
@@ -18,7 +18,9 @@ use Rattle.model.specs.declared.Row.{Row}
 use Rattle.model.specs.declared.Stage.{Stage}
 use Rattle.model.specs.declared.Stage.the-variants.{Waiting, Paired, Closed}
 use Rattle.memory.specs.Number.{numberAt, withNumber}
-use Rattle.memory.specs.Heads.{nameIn, stageOf, stageByte, flagsInForm, acceptedAt, returnedAt, shipmentIn, FieldStored}
+use Rattle.memory.specs.Layout.{headSize, IsHead}
+use Rattle.memory.specs.Heads.{nameIn, feeIn, stageOf, stageAt, stageIn, goAheadAt, goAheadIn, flagsInForm, orderCountIn, acceptedAt, returnedAt, shipmentIn}
+use Rattle.memory.specs.Stored.{stageByte, FieldStored}
 use Rattle.memory.proofs.Numbers.{stored-is-read}
 
 -- Two heads that are the same outside the bytes from one place up to another, which lie behind the name and the fee.
@@ -68,7 +70,7 @@ number-elsewhere head at n h =
 
 -- Two heads with the same number of orders, the second's flags in form where the first's are.
 pub record FormKept (head head′ : List ℕ) : Type 0 where
-  pub orders : numberAt 2 head′ 30 ≡ numberAt 2 head 30
+  pub orders : orderCountIn head′ ≡ orderCountIn head
   pub flags : flagsInForm head ≡ true → flagsInForm head′ ≡ true
 
 pub number-keeps-form : (head : List ℕ) (at n : ℕ) → 32 ≤ at → FormKept head (withNumber 8 head at n)
@@ -76,17 +78,17 @@ number-keeps-form head at n h =
     let e = number-elsewhere head at n (omega arith) in
     record {
       orders = number-before at (at + 8) head (withNumber 8 head at n) e 2 30 (omega arith);
-      flags = λ form. rw (e .before 28 (omega arith), e .before 29 (omega arith)) form;
+      flags = λ form. rw (e .before stageAt (omega arith), e .before goAheadAt (omega arith)) form;
     }
 
-pub stage-keeps-form : (head : List ℕ) (stage : Stage) → length head ≡ 64 → FormKept head (set head 28 (stageByte stage))
+pub stage-keeps-form : (head : List ℕ) (stage : Stage) → IsHead head → FormKept head (set head stageAt (stageByte stage))
 stage-keeps-form head stage whole =
-    let e = byte-elsewhere head 28 (stageByte stage) (omega arith) in
+    let e = byte-elsewhere head stageAt (stageByte stage) (omega arith) in
     record {
-      orders = number-behind 28 29 head (set head 28 (stageByte stage)) e 2 30 (omega arith);
+      orders = number-behind 28 29 head (set head stageAt (stageByte stage)) e 2 30 (omega arith);
       flags = λ form.
-          rw (getD-set-same head 28 (stageByte stage) 0 (omega arith), e .behind 29 (omega arith))
-          (both-yes (leb (stageByte stage) 2) (leb (getD head 29 0) 1) (by stage) (and-right (leb (getD head 28 0) 2) (leb (getD head 29 0) 1) form));
+          rw (getD-set-same head stageAt (stageByte stage) 0 (omega arith), e .behind goAheadAt (omega arith))
+          (both-yes (leb (stageByte stage) 2) (leb (getD head goAheadAt 0) 1) (by stage) (and-right (leb (getD head stageAt 0) 2) (leb (getD head goAheadAt 0) 1) form));
     }
   where
     by : (stage : Stage) → leb (stageByte stage) 2 ≡ true
@@ -94,14 +96,14 @@ stage-keeps-form head stage whole =
     by Paired = refl
     by Closed = refl
 
-pub go-ahead-keeps-form : (head : List ℕ) → length head ≡ 64 → FormKept head (set head 29 1)
+pub go-ahead-keeps-form : (head : List ℕ) → IsHead head → FormKept head (set head goAheadAt 1)
 go-ahead-keeps-form head whole =
-    let e = byte-elsewhere head 29 1 (omega arith) in
+    let e = byte-elsewhere head goAheadAt 1 (omega arith) in
     record {
-      orders = number-behind 29 30 head (set head 29 1) e 2 30 (omega arith);
+      orders = number-behind 29 30 head (set head goAheadAt 1) e 2 30 (omega arith);
       flags = λ form.
-          rw (getD-set-same head 29 1 0 (omega arith), e .before 28 (omega arith))
-          (both-yes (leb (getD head 28 0) 2) true (and-left (leb (getD head 28 0) 2) (leb (getD head 29 0) 1) form) refl);
+          rw (getD-set-same head goAheadAt 1 0 (omega arith), e .before stageAt (omega arith))
+          (both-yes (leb (getD head stageAt 0) 2) true (and-left (leb (getD head stageAt 0) 2) (leb (getD head goAheadAt 0) 1) form) refl);
     }
 
 stage-back : (stage : Stage) → stageOf (stageByte stage) ≡ stage
@@ -121,19 +123,19 @@ paired-byte byte =
     either-way (eqb byte 0) (λ zero. rw zero (ap (λ b. eqb b 1) (eqb-true byte 0 zero)))
     (λ other. rw other (either-way (eqb byte 1) (λ one. rw one) (λ more. rw more)))
 
-module _ (head : List ℕ) (rows : List Row) (whole : length head ≡ 64) where
-  stage-stored : (stage : Stage) → shipmentIn (set head 28 (stageByte stage)) rows ≡ withStage stage (shipmentIn head rows)
+module _ (head : List ℕ) (rows : List Row) (whole : IsHead head) where
+  stage-stored : (stage : Stage) → shipmentIn (set head stageAt (stageByte stage)) rows ≡ withStage stage (shipmentIn head rows)
   unfolding shipmentIn
   stage-stored stage =
-      let head′ = set head 28 (stageByte stage) in
-      let e = byte-elsewhere head 28 (stageByte stage) (omega arith) in
-      let there : getD head′ 28 0 ≡ stageByte stage = getD-set-same head 28 (stageByte stage) 0 (omega arith) in
+      let head′ = set head stageAt (stageByte stage) in
+      let e = byte-elsewhere head stageAt (stageByte stage) (omega arith) in
+      let there : getD head′ stageAt 0 ≡ stageByte stage = getD-set-same head stageAt (stageByte stage) 0 (omega arith) in
       let staged = ap stageOf there ∙ stage-back stage in
       λ i. record {
         name = same-name 28 29 head head′ e (omega arith) i;
         fee = number-before 28 29 head head′ e 4 24 (omega arith) i;
         stage = staged i;
-        goAhead = eqb (e .behind 29 (omega arith) i) 1;
+        goAhead = eqb (e .behind goAheadAt (omega arith) i) 1;
         acceptedK = number-behind 28 29 head head′ e 8 32 (omega arith) i;
         acceptedO = number-behind 28 29 head head′ e 8 40 (omega arith) i;
         returnedK = number-behind 28 29 head head′ e 8 48 (omega arith) i;
@@ -141,16 +143,16 @@ module _ (head : List ℕ) (rows : List Row) (whole : length head ≡ 64) where
         rows = rows;
       }
 
-  go-ahead-stored : shipmentIn (set head 29 1) rows ≡ withGoAhead (shipmentIn head rows)
+  go-ahead-stored : shipmentIn (set head goAheadAt 1) rows ≡ withGoAhead (shipmentIn head rows)
   unfolding shipmentIn
   go-ahead-stored =
-      let head′ = set head 29 1 in
-      let e = byte-elsewhere head 29 1 (omega arith) in
+      let head′ = set head goAheadAt 1 in
+      let e = byte-elsewhere head goAheadAt 1 (omega arith) in
       λ i. record {
         name = same-name 29 30 head head′ e (omega arith) i;
         fee = number-before 29 30 head head′ e 4 24 (omega arith) i;
-        stage = stageOf (e .before 28 (omega arith) i);
-        goAhead = eqb (getD-set-same head 29 1 0 (omega arith) i) 1;
+        stage = stageOf (e .before stageAt (omega arith) i);
+        goAhead = eqb (getD-set-same head goAheadAt 1 0 (omega arith) i) 1;
         acceptedK = number-behind 29 30 head head′ e 8 32 (omega arith) i;
         acceptedO = number-behind 29 30 head head′ e 8 40 (omega arith) i;
         returnedK = number-behind 29 30 head head′ e 8 48 (omega arith) i;
@@ -159,7 +161,7 @@ module _ (head : List ℕ) (rows : List Row) (whole : length head ≡ 64) where
       }
 
   -- a number in one of the four fields of money
-  module _ (at x : ℕ) (low : 30 ≤ at) (high : at + 8 ≤ 64) (fits : x < 2 ^ 64) where
+  module _ (at x : ℕ) (low : 30 ≤ at) (high : at + 8 ≤ headSize) (fits : x < 2 ^ 64) where
     abbrev after : List ℕ
     after = withNumber 8 head at x
 
@@ -179,9 +181,9 @@ module _ (head : List ℕ) (rows : List Row) (whole : length head ≡ 64) where
     with-moneys : (k o rk ro : ℕ) → numberAt 8 after 32 ≡ k → numberAt 8 after 40 ≡ o → numberAt 8 after 48 ≡ rk → numberAt 8 after 56 ≡ ro
         → shipmentIn after rows ≡ record {
           name = nameIn head;
-          fee = numberAt 4 head 24;
-          stage = stageOf (getD head 28 0);
-          goAhead = eqb (getD head 29 0) 1;
+          fee = feeIn head;
+          stage = stageIn head;
+          goAhead = goAheadIn head;
           acceptedK = k;
           acceptedO = o;
           returnedK = rk;
@@ -192,8 +194,8 @@ module _ (head : List ℕ) (rows : List Row) (whole : length head ≡ 64) where
     with-moneys k o rk ro ek eo erk ero = λ i. record {
       name = same-name at (at + 8) head after elsewhere (omega arith) i;
       fee = number-before at (at + 8) head after elsewhere 4 24 (omega arith) i;
-      stage = stageOf (elsewhere .before 28 (omega arith) i);
-      goAhead = eqb (elsewhere .before 29 (omega arith) i) 1;
+      stage = stageOf (elsewhere .before stageAt (omega arith) i);
+      goAhead = eqb (elsewhere .before goAheadAt (omega arith) i) 1;
       acceptedK = ek i;
       acceptedO = eo i;
       returnedK = erk i;

@@ -1,7 +1,12 @@
 pub mod Numbers
 pub mod Parts
+pub mod StateLaws
 pub mod RowLaws
+pub mod ClassLaws
+pub mod ReturnLaws
+pub mod HoldingLaws
 pub mod HeadLaws
+pub mod HeadStores
 pub mod HeadFields
 pub mod NameLaws
 pub mod ReadLaws

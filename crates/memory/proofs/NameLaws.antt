@@ -13,6 +13,7 @@ use lib.Seq.{take-suc, take-suc-set, getD-drop}
 use Rattle.text.specs.Bytes.{same}
 use Rattle.epe.specs.Ident.{sameIdent}
 use Rattle.memory.specs.Number.{numberAt}
+use Rattle.memory.specs.Layout.{IsHead}
 use Rattle.memory.specs.Heads.{nameIn}
 use Rattle.memory.proofs.Numbers.{alike, by-parts, by-bytes}
 
@@ -31,7 +32,7 @@ one-byte head at = omega arith
 abbrev pub sameWords : List ℕ → List ℕ → Bool
 sameWords a b = alike a b 8 0 && (alike a b 8 8 && alike a b 2 16)
 
-module _ (a b : List ℕ) (long-a : length a ≡ 64) (long-b : length b ≡ 64)
+module _ (a b : List ℕ) (long-a : IsHead a) (long-b : IsHead b)
     (bytes-a : (j : ℕ) → getD a j 0 < 256) (bytes-b : (j : ℕ) → getD b j 0 < 256) where
   parts : (m n at : ℕ) → alike a b (m + n) at ≡ (alike a b m at && alike a b n (at + m))
   parts = by-parts a b bytes-a bytes-b

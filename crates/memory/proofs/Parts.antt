@@ -10,8 +10,9 @@ use lib.Dec.{ltb}
 use lib.ListN.{length, set, take, drop, length-set, length-drop}
 use lib.Seq.{length-take-le, drop-set-lt, drop-set-add, take-set-le, take-set-lt, getD-set-other}
 use Rattle.text.proofs.Branches.{either-way}
-use Rattle.memory.specs.Layout.{headAt, rowAt, headBytes, rowBytes, OnlyRow, OnlyHead}
+use Rattle.model.specs.Shipment.{mostShipments, mostRows}
 use Rattle.memory.specs.Number.{withNumber}
+use Rattle.memory.specs.Layout.{headSize, rowSize, headAt, rowAt, headBytes, rowBytes, OnlyRow, OnlyHead}
 
 -- any part of a list
 module _ (m : List ℕ) (at n : ℕ) where
@@ -59,23 +60,23 @@ module _ (Only : List ℕ → List ℕ → Type 0) (none : (m : List ℕ) → On
       (subst (λ p. Only first (withNumber width first p (x / 256))) next (number-only width first (suc q) (x / 256) (omega arith)))
 
 -- byte q of row k
-module _ (m : List ℕ) (k q v : ℕ) (within : q < 8) where
+module _ (m : List ℕ) (k q v : ℕ) (within : q < rowSize) where
   pub row-byte : rowBytes (set m (rowAt k + q) v) k ≡ set (rowBytes m k) q v
   unfolding rowBytes
-  row-byte = inside m (rowAt k) 8 q v within
+  row-byte = inside m (rowAt k) rowSize q v within
 
   other-row : (j : ℕ) → (j ≡ k → ⊥) → rowBytes (set m (rowAt k + q) v) j ≡ rowBytes m j
   unfolding rowBytes
   other-row j apart =
       either-way (ltb j k)
-      (λ below. outside m (rowAt j) 8 (rowAt k + q) v (inr (omega (arith, ltb-true j k below))))
-      (λ above. outside m (rowAt j) 8 (rowAt k + q) v (inl (omega (arith, ltb-false j k above))))
+      (λ below. outside m (rowAt j) rowSize (rowAt k + q) v (inr (omega (arith, ltb-true j k below))))
+      (λ above. outside m (rowAt j) rowSize (rowAt k + q) v (inl (omega (arith, ltb-false j k above))))
 
-  any-head : (i : ℕ) → i < 32 → headBytes (set m (rowAt k + q) v) i ≡ headBytes m i
+  any-head : (i : ℕ) → i < mostShipments → headBytes (set m (rowAt k + q) v) i ≡ headBytes m i
   unfolding headBytes
-  any-head i few = outside m (headAt i) 64 (rowAt k + q) v (inr (omega arith))
+  any-head i few = outside m (headAt i) headSize (rowAt k + q) v (inr (omega arith))
 
-  pub row-byte-only : k < 2_048 → OnlyRow k m (set m (rowAt k + q) v)
+  pub row-byte-only : k < mostRows → OnlyRow k m (set m (rowAt k + q) v)
   row-byte-only there = record {
     shipments = getD-set-other m (rowAt k + q) 0 v 0 (omega arith);
     heads = any-head;
@@ -85,23 +86,23 @@ module _ (m : List ℕ) (k q v : ℕ) (within : q < 8) where
   }
 
 -- byte q of head i
-module _ (m : List ℕ) (i q v : ℕ) (within : q < 64) where
+module _ (m : List ℕ) (i q v : ℕ) (within : q < headSize) where
   pub head-byte : headBytes (set m (headAt i + q) v) i ≡ set (headBytes m i) q v
   unfolding headBytes
-  head-byte = inside m (headAt i) 64 q v within
+  head-byte = inside m (headAt i) headSize q v within
 
   other-head : (j : ℕ) → (j ≡ i → ⊥) → headBytes (set m (headAt i + q) v) j ≡ headBytes m j
   unfolding headBytes
   other-head j apart =
       either-way (ltb j i)
-      (λ below. outside m (headAt j) 64 (headAt i + q) v (inr (omega (arith, ltb-true j i below))))
-      (λ above. outside m (headAt j) 64 (headAt i + q) v (inl (omega (arith, ltb-false j i above))))
+      (λ below. outside m (headAt j) headSize (headAt i + q) v (inr (omega (arith, ltb-true j i below))))
+      (λ above. outside m (headAt j) headSize (headAt i + q) v (inl (omega (arith, ltb-false j i above))))
 
-  any-row : i < 32 → (k : ℕ) → rowBytes (set m (headAt i + q) v) k ≡ rowBytes m k
+  any-row : i < mostShipments → (k : ℕ) → rowBytes (set m (headAt i + q) v) k ≡ rowBytes m k
   unfolding rowBytes
-  any-row few k = outside m (rowAt k) 8 (headAt i + q) v (inl (omega arith))
+  any-row few k = outside m (rowAt k) rowSize (headAt i + q) v (inl (omega arith))
 
-  pub head-byte-only : i < 32 → OnlyHead i m (set m (headAt i + q) v)
+  pub head-byte-only : i < mostShipments → OnlyHead i m (set m (headAt i + q) v)
   head-byte-only few = record {
     shipments = getD-set-other m (headAt i + q) 0 v 0 (omega arith);
     other-heads = other-head;
@@ -129,14 +130,14 @@ only-head-then i l m n first then = record {
   as-long = then .as-long ∙ first .as-long;
 }
 
-pub head-number : (width : ℕ) (m : List ℕ) (i q n : ℕ) → q + width ≤ 64
+pub head-number : (width : ℕ) (m : List ℕ) (i q n : ℕ) → q + width ≤ headSize
     → headBytes (withNumber width m (headAt i + q) n) i ≡ withNumber width (headBytes m i) q n
 unfolding headBytes
-head-number width m i q n within = number-inside width m (headAt i) 64 q n within
+head-number width m i q n within = number-inside width m (headAt i) headSize q n within
 
-pub head-number-only : (width : ℕ) (m : List ℕ) (i q n : ℕ) → q + width ≤ 64 → i < 32 → OnlyHead i m (withNumber width m (headAt i + q) n)
+pub head-number-only : (width : ℕ) (m : List ℕ) (i q n : ℕ) → q + width ≤ headSize → i < mostShipments → OnlyHead i m (withNumber width m (headAt i + q) n)
 head-number-only width m i q n within few =
-    number-only (OnlyHead i) (only-head-none i) (only-head-then i) (headAt i) 64 (λ l p v h. head-byte-only l i p v h few) width m q n within
+    number-only (OnlyHead i) (only-head-none i) (only-head-then i) (headAt i) headSize (λ l p v h. head-byte-only l i p v h few) width m q n within
 
 -- one change of a row after another, and a number
 only-row-none : (k : ℕ) (m : List ℕ) → OnlyRow k m m
@@ -157,21 +158,21 @@ only-row-then k l m n first then = record {
   as-long = then .as-long ∙ first .as-long;
 }
 
-pub row-number : (width : ℕ) (m : List ℕ) (k q n : ℕ) → q + width ≤ 8
+pub row-number : (width : ℕ) (m : List ℕ) (k q n : ℕ) → q + width ≤ rowSize
     → rowBytes (withNumber width m (rowAt k + q) n) k ≡ withNumber width (rowBytes m k) q n
 unfolding rowBytes
-row-number width m k q n within = number-inside width m (rowAt k) 8 q n within
+row-number width m k q n within = number-inside width m (rowAt k) rowSize q n within
 
-pub row-number-only : (width : ℕ) (m : List ℕ) (k q n : ℕ) → q + width ≤ 8 → k < 2_048 → OnlyRow k m (withNumber width m (rowAt k + q) n)
+pub row-number-only : (width : ℕ) (m : List ℕ) (k q n : ℕ) → q + width ≤ rowSize → k < mostRows → OnlyRow k m (withNumber width m (rowAt k + q) n)
 row-number-only width m k q n within there =
-    number-only (OnlyRow k) (only-row-none k) (only-row-then k) (rowAt k) 8 (λ l p v h. row-byte-only l k p v h there) width m q n within
+    number-only (OnlyRow k) (only-row-none k) (only-row-then k) (rowAt k) rowSize (λ l p v h. row-byte-only l k p v h there) width m q n within
 
 -- the number of shipments
 module _ (m : List ℕ) (v : ℕ) where
   pub number-heads : (i : ℕ) → headBytes (set m 0 v) i ≡ headBytes m i
   unfolding headBytes
-  number-heads i = outside m (headAt i) 64 0 v (inl (omega arith))
+  number-heads i = outside m (headAt i) headSize 0 v (inl (omega arith))
 
   pub number-rows : (k : ℕ) → rowBytes (set m 0 v) k ≡ rowBytes m k
   unfolding rowBytes
-  number-rows k = outside m (rowAt k) 8 0 v (inl (omega arith))
+  number-rows k = outside m (rowAt k) rowSize 0 v (inl (omega arith))

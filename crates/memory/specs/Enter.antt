@@ -9,10 +9,9 @@ use Rattle.epe.specs.declared.name.Name.{Name}
 use Rattle.epe.specs.declared.record.Order.{Order}
 use Rattle.model.specs.Book.{enteredRow, newShipment}
 use Rattle.model.specs.declared.Row.{Row}
-use Rattle.memory.specs.Number.{numberAt}
-use Rattle.memory.specs.Layout.{headBytes, rowBytes, OnlyHead, OnlyRow}
+use Rattle.memory.specs.Layout.{headBytes, rowBytes, OnlyRow, OnlyHead}
 use Rattle.memory.specs.Rows.{rowOf}
-use Rattle.memory.specs.Heads.{flagsInForm, shipmentIn}
+use Rattle.memory.specs.Heads.{flagsInForm, orderCountIn, shipmentIn}
 
 -- Row k is that of an order, and nothing else moves.
 pub record OrderEntered (order : Order) (k : ℕ) (m m′ : List ℕ) : Type 0 where
@@ -22,7 +21,7 @@ pub record OrderEntered (order : Order) (k : ℕ) (m m′ : List ℕ) : Type 0 w
 -- Head i is that of a shipment of n orders, just entered, and nothing else moves.
 pub record HeadEntered (name : Name) (fee n i : ℕ) (m m′ : List ℕ) : Type 0 where
   pub shipment : (rows : List Row) → shipmentIn (headBytes m′ i) rows ≡ newShipment name fee rows
-  pub orders : numberAt 2 (headBytes m′ i) 30 ≡ n
+  pub orders : orderCountIn (headBytes m′ i) ≡ n
   pub flags : flagsInForm (headBytes m′ i) ≡ true
   pub only : OnlyHead i m m′
 
@@ -31,13 +30,13 @@ abbrev pub bytesOf : ℕ → ℕ → List ℕ
 bytesOf zero n = []
 bytesOf (suc width) n = n % 256 ∷ bytesOf width (n / 256)
 
--- Bytes 17 to 63 of such a head, behind the identifier.
+-- The bytes of such a head behind the identifier.
 unfoldable pub fieldsOf : Name → ℕ → ℕ → List ℕ
 fieldsOf name fee n =
     name .ident .len
     ∷ bytesOf 4 (name .date .0) ++ name .payment ∷ name .kind ∷ bytesOf 4 fee ++ 0 ∷ 0 ∷ bytesOf 2 n ++ replicate 32 0
 
--- Head i is the 64 bytes given, and nothing else moves.
+-- Head i is the bytes given, and nothing else moves.
 pub record HeadStored (head : List ℕ) (i : ℕ) (m m′ : List ℕ) : Type 0 where
   pub bytes : headBytes m′ i ≡ head
   pub only : OnlyHead i m m′

@@ -1,6 +1,12 @@
 pub mod Number
 pub mod Layout
+pub mod States
 pub mod Rows
 pub mod Heads
 pub mod Read
+pub mod Stored
 pub mod Enter
+pub mod Table
+pub mod Classes
+pub mod Returns
+pub mod Holdings

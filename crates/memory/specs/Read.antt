@@ -6,14 +6,13 @@ use mathlib.Core.Option.{Option, some, none}
 use Prim.Native.Nat.{ℕ, zero, suc, _+_, _≤_, _<_}
 use lib.Dec.{leb}
 use lib.ListN.{length, getD, set}
-use Rattle.model.specs.Shipment.{Shipment}
+use Rattle.model.specs.Shipment.{mostShipments, mostRows, Shipment}
 use Rattle.model.specs.Book.{Book}
 use Rattle.model.specs.Sound.{sound, shipmentSound}
 use Rattle.model.specs.declared.Row.{Row}
-use Rattle.memory.specs.Number.{numberAt}
 use Rattle.memory.specs.Layout.{size, headBytes, rowBytes}
 use Rattle.memory.specs.Rows.{rowOf}
-use Rattle.memory.specs.Heads.{flagsInForm, shipmentIn}
+use Rattle.memory.specs.Heads.{flagsInForm, orderCountIn, shipmentIn}
 
 -- The n rows from the k-th on.
 unfoldable pub rowsFrom : List ℕ → ℕ → ℕ → List Row
@@ -22,7 +21,7 @@ rowsFrom m k (suc n) = rowOf (rowBytes m k) ∷ rowsFrom m (suc k) n
 
 -- The i-th shipment, its rows from the k-th on, and n of them: "the orders' parts follow one another".
 abbrev pub ordersAt : List ℕ → ℕ → ℕ
-ordersAt m i = numberAt 2 (headBytes m i) 30
+ordersAt m i = orderCountIn (headBytes m i)
 
 abbrev pub shipmentAt : List ℕ → ℕ → ℕ → Shipment
 shipmentAt m i k = shipmentIn (headBytes m i) (rowsFrom m k (ordersAt m i))
@@ -55,6 +54,6 @@ EmptyIsRead = (m : List ℕ) → size ≤ length m → readBook (set m 0 0) ≡ 
 -- A shipment's place in a sound book: head i, its rows from the k-th on.
 pub record Sits (m : List ℕ) (i k : ℕ) : Type 0 where
   pub enough : size ≤ length m
-  pub few : i < 32
-  pub room : k + ordersAt m i ≤ 2_048
+  pub few : i < mostShipments
+  pub room : k + ordersAt m i ≤ mostRows
   pub sound : shipmentSound (shipmentAt m i k) ≡ true

@@ -1,7 +1,15 @@
 // A shipment entered: its rows, and its head.
-use crate::head::HEADS;
+use crate::HEAD_SIZE;
+use crate::HEADS;
+use crate::ROW_SIZE;
+use crate::ROWS;
+use crate::head::DATE;
+use crate::head::FEE;
+use crate::head::KIND;
+use crate::head::LENGTH;
+use crate::head::ORDERS;
+use crate::head::PAYMENT;
 use crate::number::store_four;
-use crate::row::ROWS;
 use crate::row::store_state;
 use epe::name::Name;
 use epe::record::Order;
@@ -13,8 +21,10 @@ ghost use mathlib.Core.List.{_++_};
 ghost use Prim.Native.Nat.{_≤_, _<_, _^_};
 ghost use lib.ListN.{length, replicate};
 ghost use Rattle.epe.specs.Name.{nameInForm};
+ghost use Rattle.model.specs.Shipment.{mostShipments, mostRows};
 ghost use Rattle.model.specs.Book.{enteredRow};
 ghost use Rattle.memory.specs.Layout.{size};
+ghost use Rattle.memory.specs.States.{lastFault};
 ghost use Rattle.memory.specs.Enter.{OrderEntered, HeadEntered, fieldsOf, HeadStored};
 
 // The state of an order as it is entered.
@@ -29,33 +39,33 @@ fn entered_state(order: Order) -> State
 
 // Enters an order in row k.
 pub fn enter_order(memory: &mut [u8], k: usize, order: Order)
-    requires { ⌜ (k < 2_048) × (size ≤ length (now memory)) × (order .amount .0 < 2 ^ 32) × (order .fault ≤ 10) ⌝ }
+    requires { ⌜ (k < mostRows) × (size ≤ length (now memory)) × (order .amount .0 < 2 ^ 32) × (order .fault ≤ lastFault) ⌝ }
     ensures { λ _. ⌜ OrderEntered order k (now (memory .entry)) (now (memory .exit)) ⌝ }
 {
-    let at = ROWS + 8 * k;
+    let at = ROWS + ROW_SIZE * k;
     store_four(memory, at, order.amount.0);
     let state = entered_state(order);
     store_state(memory, k, state);
 }
 
 // The head of a shipment as it is entered, but for the identifier.
-fn fields(name: Name, fee: Fee, n: u64) -> [u8; 64]
+fn fields(name: Name, fee: Fee, n: u64) -> [u8; HEAD_SIZE]
     requires { ⌜ (name .ident .len ≤ 17) × (name .kind ≤ 4) ⌝ }
     ensures { λ r. ⌜ r ≡ replicate 17 0 ++ fieldsOf name (fee .0) n ⌝ }
 {
-    let mut head = [0u8; 64];
-    head[17] = name.ident.len as u8;
-    store_four(&mut head, 18, name.date.0);
-    head[22] = name.payment;
-    head[23] = name.kind as u8;
-    store_four(&mut head, 24, fee.0);
-    head[30] = (n % 256) as u8;
-    head[31] = (n / 256 % 256) as u8;
+    let mut head = [0u8; HEAD_SIZE];
+    head[LENGTH] = name.ident.len as u8;
+    store_four(&mut head, DATE, name.date.0);
+    head[PAYMENT] = name.payment;
+    head[KIND] = name.kind as u8;
+    store_four(&mut head, FEE, fee.0);
+    head[ORDERS] = (n % 256) as u8;
+    head[ORDERS + 1] = (n / 256 % 256) as u8;
     head
 }
 
 // The head of a shipment of n orders as it is entered.
-fn head_of(name: Name, fee: Fee, n: u64) -> [u8; 64]
+fn head_of(name: Name, fee: Fee, n: u64) -> [u8; HEAD_SIZE]
     requires { ⌜ (name .ident .len ≤ 17) × (name .kind ≤ 4) ⌝ }
     ensures { λ r. ⌜ r ≡ name .ident .bytes ++ fieldsOf name (fee .0) n ⌝ }
 {
@@ -69,14 +79,14 @@ fn head_of(name: Name, fee: Fee, n: u64) -> [u8; 64]
     head
 }
 
-// Stores 64 bytes as head i.
-fn store_head(memory: &mut [u8], i: usize, head: [u8; 64])
-    requires { ⌜ (i < 32) × (size ≤ length (now memory)) ⌝ }
+// Stores the bytes of a head as head i.
+fn store_head(memory: &mut [u8], i: usize, head: [u8; HEAD_SIZE])
+    requires { ⌜ (i < mostShipments) × (size ≤ length (now memory)) ⌝ }
     ensures { λ _. ⌜ HeadStored head i (now (memory .entry)) (now (memory .exit)) ⌝ }
 {
-    let at = HEADS + 64 * i;
+    let at = HEADS + HEAD_SIZE * i;
     let mut j = 0;
-    while j < 64 {
+    while j < HEAD_SIZE {
         memory[at + j] = head[j];
         j += 1;
     }
@@ -84,7 +94,7 @@ fn store_head(memory: &mut [u8], i: usize, head: [u8; 64])
 
 // Enters a shipment of n orders in head i.
 pub fn enter_head(memory: &mut [u8], i: usize, name: Name, fee: Fee, n: u64)
-    requires { ⌜ (i < 32) × (size ≤ length (now memory)) × (nameInForm name ≡ true) × (fee .0 < 2 ^ 32) × (n < 2 ^ 16) ⌝ }
+    requires { ⌜ (i < mostShipments) × (size ≤ length (now memory)) × (nameInForm name ≡ true) × (fee .0 < 2 ^ 32) × (n < 2 ^ 16) ⌝ }
     ensures { λ _. ⌜ HeadEntered name (fee .0) n i (now (memory .entry)) (now (memory .exit)) ⌝ }
 {
     let head = head_of(name, fee, n);

@@ -1,4 +1,6 @@
-// A shipment's head: its fields, read from its 64 bytes and stored in place.
+// A shipment's head: its fields, read from its bytes and stored in place.
+use crate::HEAD_SIZE;
+use crate::HEADS;
 use crate::number::read_eight;
 use crate::number::read_four;
 use crate::number::read_two;
@@ -10,99 +12,142 @@ use money::Money;
 use money::Sum;
 ghost use mathlib.Core.Path.{_≡_};
 ghost use mathlib.Core.Bool.{_&&_};
-ghost use Prim.Native.Nat.{_+_, _≤_, _<_, _^_};
-ghost use lib.ListN.{length, getD, set};
+ghost use Prim.Native.Nat.{_+_, _*_, _≤_, _<_, _^_};
+ghost use lib.ListN.{length};
 ghost use Rattle.money.specs.Money.{amount, fee, isSum, WithinSum, sumOf, groszeIn, moneyOfSum};
 ghost use Rattle.money.specs.declared.Money.the-variants.{K, O};
-ghost use Rattle.model.specs.Shipment.{isWaiting, isPaired};
-ghost use Rattle.memory.specs.Number.{numberAt, withNumber};
-ghost use Rattle.memory.specs.Layout.{size, headAt, headBytes};
-ghost use Rattle.memory.specs.Heads.{stageOf, stageByte, goAheadIn, flagsInForm, acceptedAt, returnedAt};
+ghost use Rattle.model.specs.Shipment.{mostShipments, mostRows, isWaiting, isPaired};
+ghost use Rattle.memory.specs.Layout.{headSize, size, headBytes, IsHead};
+ghost use Rattle.memory.specs.Heads.{feeIn, stageIn, goAheadIn, flagsInForm, orderCountIn, acceptedAt, transfersIn, returnedAt, surplusIn};
+ghost use Rattle.memory.specs.Stored.{stageByte, withStageAt, withGoAheadAt, withTransfersAt, withSurplusAt};
 
-pub const HEADS: usize = 64;
+// Where the length of the identifier lies, behind the identifier, which is the first field.
+pub const LENGTH: usize = 17;
+
+// The date of the name.
+pub const DATE: usize = 18;
+
+// A or B.
+pub const PAYMENT: usize = 22;
+
+// The kind.
+pub const KIND: usize = 23;
+
+// The fee F.
+pub const FEE: usize = 24;
+
+// The stage.
+const STAGE: usize = 28;
+
+// Whether a go-ahead came.
+const GO_AHEAD: usize = 29;
+
+// The number of orders.
+pub const ORDERS: usize = 30;
+
+// Transfers accepted of K.
+const ACCEPTED_K: usize = 32;
+
+// Transfers accepted of O.
+const ACCEPTED_O: usize = 40;
+
+// Surplus returned of K.
+const RETURNED_K: usize = 48;
+
+// Surplus returned of O.
+const RETURNED_O: usize = 56;
 
 // The bytes of head i.
 pub fn head_bytes(memory: &[u8], i: usize) -> &[u8]
-    requires { ⌜ (i < 32) × (size ≤ length (now memory)) ⌝ }
-    ensures { λ r. ⌜ (now r ≡ headBytes (now (memory .entry)) i) × (length (now r) ≡ 64) ⌝ }
+    requires { ⌜ (i < mostShipments) × (size ≤ length (now memory)) ⌝ }
+    ensures { λ r. ⌜ (now r ≡ headBytes (now (memory .entry)) i) × IsHead (now r) ⌝ }
 {
-    let at = HEADS + 64 * i;
-    let end = at + 64;
+    let at = HEADS + HEAD_SIZE * i;
+    let end = at + HEAD_SIZE;
     &memory[at..end]
 }
 
 // Is the shipment Waiting?
 pub fn is_waiting(head: &[u8]) -> bool
-    requires { ⌜ length (now head) ≡ 64 ⌝ }
-    ensures { λ r. ⌜ r ≡ isWaiting (stageOf (getD (now (head .entry)) 28 0)) ⌝ }
+    requires { ⌜ IsHead (now head) ⌝ }
+    ensures { λ r. ⌜ r ≡ isWaiting (stageIn (now (head .entry))) ⌝ }
 {
-    head[28] == 0
+    head[STAGE] == 0
 }
 
 // Is the shipment Paired?
 pub fn is_paired(head: &[u8]) -> bool
-    requires { ⌜ length (now head) ≡ 64 ⌝ }
-    ensures { λ r. ⌜ r ≡ isPaired (stageOf (getD (now (head .entry)) 28 0)) ⌝ }
+    requires { ⌜ IsHead (now head) ⌝ }
+    ensures { λ r. ⌜ r ≡ isPaired (stageIn (now (head .entry))) ⌝ }
 {
-    head[28] == 1
+    head[STAGE] == 1
 }
 
 // Are the bytes of stage and go-ahead in form?
 pub fn has_flags_in_form(head: &[u8]) -> bool
-    requires { ⌜ length (now head) ≡ 64 ⌝ }
+    requires { ⌜ IsHead (now head) ⌝ }
     ensures { λ r. ⌜ r ≡ flagsInForm (now (head .entry)) ⌝ }
 {
-    head[28] <= 2 && head[29] <= 1
+    head[STAGE] <= 2 && head[GO_AHEAD] <= 1
 }
 
 // Did a go-ahead come?
 pub fn has_go_ahead(head: &[u8]) -> bool
-    requires { ⌜ length (now head) ≡ 64 ⌝ }
+    requires { ⌜ IsHead (now head) ⌝ }
     ensures { λ r. ⌜ r ≡ goAheadIn (now (head .entry)) ⌝ }
 {
-    head[29] == 1
+    head[GO_AHEAD] == 1
 }
 
 // The fee F. What four bytes say is never above the cap of a sum.
 pub fn fee(head: &[u8]) -> Fee
-    requires { ⌜ length (now head) ≡ 64 ⌝ }
-    ensures { λ r. ⌜ (r ≡ fee (numberAt 4 (now (head .entry)) 24)) × (r .0 < 2 ^ 32) ⌝ }
+    requires { ⌜ IsHead (now head) ⌝ }
+    ensures { λ r. ⌜ (r ≡ fee (feeIn (now (head .entry)))) × (r .0 < 2 ^ 32) ⌝ }
 {
-    Fee::sum(read_four(head, 24))
+    Fee::sum(read_four(head, FEE))
+}
+
+// The fees of n orders.
+pub fn fees(head: &[u8], n: u64) -> Fee
+    requires { ⌜ IsHead (now head) × (n ≤ mostRows) ⌝ }
+    ensures { λ r. ⌜ (r ≡ fee (n * feeIn (now (head .entry)))) × WithinSum (r .0) ⌝ }
+{
+    let fee = fee(head);
+    Fee::sum(n * fee.0)
 }
 
 // How many orders the shipment has.
 pub fn orders(head: &[u8]) -> u64
-    requires { ⌜ length (now head) ≡ 64 ⌝ }
-    ensures { λ r. ⌜ (r ≡ numberAt 2 (now (head .entry)) 30) × (r < 2 ^ 16) ⌝ }
+    requires { ⌜ IsHead (now head) ⌝ }
+    ensures { λ r. ⌜ (r ≡ orderCountIn (now (head .entry))) × (r < 2 ^ 16) ⌝ }
 {
-    read_two(head, 30)
+    read_two(head, ORDERS)
 }
 
 // Where the transfers accepted of a money lie.
 fn accepted_at(money: Money) -> usize
-    ensures { λ r. ⌜ (r ≡ acceptedAt money) × (r ≤ 40) ⌝ }
+    ensures { λ r. ⌜ (r ≡ acceptedAt money) × (r + 8 ≤ headSize) ⌝ }
 {
     match money {
-        Money::K => 32,
-        Money::O => 40,
+        Money::K => ACCEPTED_K,
+        Money::O => ACCEPTED_O,
     }
 }
 
 // Where the surplus returned of a money lies.
 fn returned_at(money: Money) -> usize
-    ensures { λ r. ⌜ (r ≡ returnedAt money) × (r ≤ 56) ⌝ }
+    ensures { λ r. ⌜ (r ≡ returnedAt money) × (r + 8 ≤ headSize) ⌝ }
 {
     match money {
-        Money::K => 48,
-        Money::O => 56,
+        Money::K => RETURNED_K,
+        Money::O => RETURNED_O,
     }
 }
 
 // Are the transfers accepted and the surplus returned of a money sums?
 pub fn has_sums_in_range(head: &[u8], money: Money) -> bool
-    requires { ⌜ length (now head) ≡ 64 ⌝ }
-    ensures { λ r. ⌜ r ≡ (isSum (numberAt 8 (now (head .entry)) (acceptedAt money)) && isSum (numberAt 8 (now (head .entry)) (returnedAt money))) ⌝ }
+    requires { ⌜ IsHead (now head) ⌝ }
+    ensures { λ r. ⌜ r ≡ (isSum (transfersIn money (now (head .entry))) && isSum (surplusIn money (now (head .entry)))) ⌝ }
 {
     let accepted = accepted_at(money);
     let returned = returned_at(money);
@@ -111,8 +156,8 @@ pub fn has_sums_in_range(head: &[u8], money: Money) -> bool
 
 // The transfers accepted of a money.
 pub fn accepted(head: &[u8], money: Money) -> Sum
-    requires { ⌜ (length (now head) ≡ 64) × WithinSum (numberAt 8 (now head) (acceptedAt money)) ⌝ }
-    ensures { λ r. ⌜ r ≡ sumOf money (numberAt 8 (now (head .entry)) (acceptedAt money)) ⌝ }
+    requires { ⌜ IsHead (now head) × WithinSum (transfersIn money (now head)) ⌝ }
+    ensures { λ r. ⌜ r ≡ sumOf money (transfersIn money (now (head .entry))) ⌝ }
 {
     let at = accepted_at(money);
     Sum::of(money, read_eight(head, at))
@@ -120,24 +165,24 @@ pub fn accepted(head: &[u8], money: Money) -> Sum
 
 // The transfers accepted of K.
 pub fn amounts_accepted(head: &[u8]) -> Amount
-    requires { ⌜ (length (now head) ≡ 64) × WithinSum (numberAt 8 (now head) (acceptedAt K)) ⌝ }
-    ensures { λ r. ⌜ r ≡ amount (numberAt 8 (now (head .entry)) (acceptedAt K)) ⌝ }
+    requires { ⌜ IsHead (now head) × WithinSum (transfersIn K (now head)) ⌝ }
+    ensures { λ r. ⌜ r ≡ amount (transfersIn K (now (head .entry))) ⌝ }
 {
-    Amount::sum(read_eight(head, 32))
+    Amount::sum(read_eight(head, ACCEPTED_K))
 }
 
 // The transfers accepted of O.
 pub fn fees_accepted(head: &[u8]) -> Fee
-    requires { ⌜ (length (now head) ≡ 64) × WithinSum (numberAt 8 (now head) (acceptedAt O)) ⌝ }
-    ensures { λ r. ⌜ r ≡ fee (numberAt 8 (now (head .entry)) (acceptedAt O)) ⌝ }
+    requires { ⌜ IsHead (now head) × WithinSum (transfersIn O (now head)) ⌝ }
+    ensures { λ r. ⌜ r ≡ fee (transfersIn O (now (head .entry))) ⌝ }
 {
-    Fee::sum(read_eight(head, 40))
+    Fee::sum(read_eight(head, ACCEPTED_O))
 }
 
 // The surplus returned of a money.
 pub fn returned(head: &[u8], money: Money) -> Sum
-    requires { ⌜ (length (now head) ≡ 64) × WithinSum (numberAt 8 (now head) (returnedAt money)) ⌝ }
-    ensures { λ r. ⌜ r ≡ sumOf money (numberAt 8 (now (head .entry)) (returnedAt money)) ⌝ }
+    requires { ⌜ IsHead (now head) × WithinSum (surplusIn money (now head)) ⌝ }
+    ensures { λ r. ⌜ r ≡ sumOf money (surplusIn money (now (head .entry))) ⌝ }
 {
     let at = returned_at(money);
     Sum::of(money, read_eight(head, at))
@@ -145,18 +190,18 @@ pub fn returned(head: &[u8], money: Money) -> Sum
 
 // The surplus returned of K.
 pub fn amounts_returned(head: &[u8]) -> Amount
-    requires { ⌜ (length (now head) ≡ 64) × WithinSum (numberAt 8 (now head) (returnedAt K)) ⌝ }
-    ensures { λ r. ⌜ r ≡ amount (numberAt 8 (now (head .entry)) (returnedAt K)) ⌝ }
+    requires { ⌜ IsHead (now head) × WithinSum (surplusIn K (now head)) ⌝ }
+    ensures { λ r. ⌜ r ≡ amount (surplusIn K (now (head .entry))) ⌝ }
 {
-    Amount::sum(read_eight(head, 48))
+    Amount::sum(read_eight(head, RETURNED_K))
 }
 
 // The surplus returned of O.
 pub fn fees_returned(head: &[u8]) -> Fee
-    requires { ⌜ (length (now head) ≡ 64) × WithinSum (numberAt 8 (now head) (returnedAt O)) ⌝ }
-    ensures { λ r. ⌜ r ≡ fee (numberAt 8 (now (head .entry)) (returnedAt O)) ⌝ }
+    requires { ⌜ IsHead (now head) × WithinSum (surplusIn O (now head)) ⌝ }
+    ensures { λ r. ⌜ r ≡ fee (surplusIn O (now (head .entry))) ⌝ }
 {
-    Fee::sum(read_eight(head, 56))
+    Fee::sum(read_eight(head, RETURNED_O))
 }
 
 // The byte that says a stage.
@@ -172,38 +217,38 @@ fn stage_byte(stage: Stage) -> u8
 
 // Stores a stage in head i.
 pub fn store_stage(memory: &mut [u8], i: usize, stage: Stage)
-    requires { ⌜ (i < 32) × (size ≤ length (now memory)) ⌝ }
-    ensures { λ _. ⌜ now (memory .exit) ≡ set (now (memory .entry)) (headAt i + 28) (stageByte stage) ⌝ }
+    requires { ⌜ (i < mostShipments) × (size ≤ length (now memory)) ⌝ }
+    ensures { λ _. ⌜ now (memory .exit) ≡ withStageAt (now (memory .entry)) i stage ⌝ }
 {
-    let at = HEADS + 64 * i;
-    memory[at + 28] = stage_byte(stage);
+    let at = HEADS + HEAD_SIZE * i;
+    memory[at + STAGE] = stage_byte(stage);
 }
 
 // Stores in head i that a go-ahead came.
 pub fn store_go_ahead(memory: &mut [u8], i: usize)
-    requires { ⌜ (i < 32) × (size ≤ length (now memory)) ⌝ }
-    ensures { λ _. ⌜ now (memory .exit) ≡ set (now (memory .entry)) (headAt i + 29) 1 ⌝ }
+    requires { ⌜ (i < mostShipments) × (size ≤ length (now memory)) ⌝ }
+    ensures { λ _. ⌜ now (memory .exit) ≡ withGoAheadAt (now (memory .entry)) i ⌝ }
 {
-    let at = HEADS + 64 * i;
-    memory[at + 29] = 1;
+    let at = HEADS + HEAD_SIZE * i;
+    memory[at + GO_AHEAD] = 1;
 }
 
 // Stores the transfers accepted of a money in head i.
 pub fn store_accepted(memory: &mut [u8], i: usize, sum: Sum)
-    requires { ⌜ (i < 32) × (size ≤ length (now memory)) ⌝ }
-    ensures { λ _. ⌜ now (memory .exit) ≡ withNumber 8 (now (memory .entry)) (headAt i + acceptedAt (moneyOfSum sum)) (groszeIn sum) ⌝ }
+    requires { ⌜ (i < mostShipments) × (size ≤ length (now memory)) ⌝ }
+    ensures { λ _. ⌜ now (memory .exit) ≡ withTransfersAt (now (memory .entry)) i (moneyOfSum sum) (groszeIn sum) ⌝ }
 {
-    let at = HEADS + 64 * i;
+    let at = HEADS + HEAD_SIZE * i;
     let field = accepted_at(sum.money());
     store_eight(memory, at + field, sum.grosze());
 }
 
 // Stores the surplus returned of a money in head i.
 pub fn store_returned(memory: &mut [u8], i: usize, sum: Sum)
-    requires { ⌜ (i < 32) × (size ≤ length (now memory)) ⌝ }
-    ensures { λ _. ⌜ now (memory .exit) ≡ withNumber 8 (now (memory .entry)) (headAt i + returnedAt (moneyOfSum sum)) (groszeIn sum) ⌝ }
+    requires { ⌜ (i < mostShipments) × (size ≤ length (now memory)) ⌝ }
+    ensures { λ _. ⌜ now (memory .exit) ≡ withSurplusAt (now (memory .entry)) i (moneyOfSum sum) (groszeIn sum) ⌝ }
 {
-    let at = HEADS + 64 * i;
+    let at = HEADS + HEAD_SIZE * i;
     let field = returned_at(sum.money());
     store_eight(memory, at + field, sum.grosze());
 }

@@ -1,18 +1,41 @@
 // The lent memory of a book: where its fields lie, read and stored in place. docs/LAYOUT.md has the table.
+pub mod class;
 pub mod enter;
 pub mod head;
+pub mod holding;
 pub mod name;
 pub mod number;
 pub mod row;
+mod state;
+pub mod wait;
 
 ghost use mathlib.Core.Path.{_≡_};
 ghost use Prim.Native.Nat.{_≤_, _<_};
 ghost use lib.ListN.{length, set};
+ghost use Rattle.model.specs.Shipment.{mostShipments};
 ghost use Rattle.memory.specs.Layout.{size};
 ghost use Rattle.memory.specs.Read.{shipmentsIn};
 
+// How many shipments a book has room for.
+pub const MOST_SHIPMENTS: usize = 32;
+
+// How many orders it has room for, in all its shipments.
+pub const MOST_ROWS: usize = 2_048;
+
+// Where the heads begin.
+const HEADS: usize = 64;
+
+// The bytes of a head.
+const HEAD_SIZE: usize = 64;
+
+// Where the rows begin.
+const ROWS: usize = HEADS + HEAD_SIZE * MOST_SHIPMENTS;
+
+// The bytes of a row.
+const ROW_SIZE: usize = 8;
+
 // The bytes of a book.
-pub const SIZE: usize = 18_496;
+pub const SIZE: usize = ROWS + ROW_SIZE * MOST_ROWS;
 
 // A byte as a count.
 fn count(byte: u8) -> usize
@@ -31,7 +54,7 @@ pub fn shipments(memory: &[u8]) -> usize
 
 // Stores the number of shipments.
 pub fn store_shipments(memory: &mut [u8], n: usize)
-    requires { ⌜ (n ≤ 32) × (size ≤ length (now memory)) ⌝ }
+    requires { ⌜ (n ≤ mostShipments) × (size ≤ length (now memory)) ⌝ }
     ensures { λ _. ⌜ now (memory .exit) ≡ set (now (memory .entry)) 0 n ⌝ }
 {
     memory[0] = n as u8;

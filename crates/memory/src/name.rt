@@ -7,7 +7,12 @@ ghost use lib.ListN.{length, take, drop};
 ghost use Rattle.epe.specs.Ident.{sameIdent, identInForm};
 ghost use Rattle.epe.specs.Name.{nameInForm};
 ghost use Rattle.model.specs.Book.{sameName};
+ghost use Rattle.memory.specs.Layout.{IsHead};
 ghost use Rattle.memory.specs.Heads.{nameIn};
+use crate::head::DATE;
+use crate::head::KIND;
+use crate::head::LENGTH;
+use crate::head::PAYMENT;
 use crate::number::read_eight;
 use crate::number::read_four;
 use crate::number::read_two;
@@ -37,19 +42,19 @@ pub fn ident_bytes(s: &[u8], at: usize) -> [u8; 17]
 
 // The shipment's identifier.
 pub fn ident(head: &[u8]) -> Ident
-    requires { ⌜ length (now head) ≡ 64 ⌝ }
+    requires { ⌜ IsHead (now head) ⌝ }
     ensures { λ r. ⌜ r ≡ nameIn (now (head .entry)) .ident ⌝ }
 {
     let bytes = ident_bytes(head, 0);
     Ident {
         bytes,
-        len: head[17] as usize,
+        len: head[LENGTH] as usize,
     }
 }
 
 // Is the shipment of that identifier?
 pub fn is_called(head: &[u8], wanted: Ident) -> bool
-    requires { ⌜ length (now head) ≡ 64 ⌝ }
+    requires { ⌜ IsHead (now head) ⌝ }
     ensures { λ r. ⌜ r ≡ sameIdent wanted (nameIn (now (head .entry)) .ident) ⌝ }
 {
     is_same(wanted, ident(head))
@@ -57,17 +62,17 @@ pub fn is_called(head: &[u8], wanted: Ident) -> bool
 
 // Is the shipment of that name?
 pub fn is_named(head: &[u8], name: Name) -> bool
-    requires { ⌜ length (now head) ≡ 64 ⌝ }
+    requires { ⌜ IsHead (now head) ⌝ }
     ensures { λ r. ⌜ r ≡ sameName name (nameIn (now (head .entry))) ⌝ }
 {
     is_called(head, name.ident)
-        && (name.date.0 == read_four(head, 18)
-            && (name.payment == head[22] && name.kind == head[23] as u64))
+        && (name.date.0 == read_four(head, DATE)
+            && (name.payment == head[PAYMENT] && name.kind == head[KIND] as u64))
 }
 
 // Have two shipments the same identifier? Its last byte and its length are compared as one number.
 pub fn are_namesakes(head: &[u8], other: &[u8]) -> bool
-    requires { ⌜ (length (now head) ≡ 64) × (length (now other) ≡ 64) ⌝ }
+    requires { ⌜ IsHead (now head) × IsHead (now other) ⌝ }
     ensures { λ r. ⌜ r ≡ sameIdent (nameIn (now (head .entry)) .ident) (nameIn (now (other .entry)) .ident) ⌝ }
 {
     read_eight(head, 0) == read_eight(other, 0)
@@ -77,12 +82,12 @@ pub fn are_namesakes(head: &[u8], other: &[u8]) -> bool
 
 // Is the identifier in form?
 fn has_ident_in_form(head: &[u8]) -> bool
-    requires { ⌜ length (now head) ≡ 64 ⌝ }
+    requires { ⌜ IsHead (now head) ⌝ }
     ensures { λ r. ⌜ r ≡ identInForm (nameIn (now (head .entry)) .ident) ⌝ }
 {
     let zeros = [0u8; 17];
     let bytes = first(head, 17);
-    let len = head[17] as usize;
+    let len = head[LENGTH] as usize;
     len <= 17 && (is_identifier(first(bytes, len)) && equal(rest(bytes, len), rest(&zeros, len)))
 }
 
@@ -95,9 +100,9 @@ fn is_payment(byte: u8) -> bool
 
 // Are all parts of the name in form?
 pub fn has_name_in_form(head: &[u8]) -> bool
-    requires { ⌜ length (now head) ≡ 64 ⌝ }
+    requires { ⌜ IsHead (now head) ⌝ }
     ensures { λ r. ⌜ r ≡ nameInForm (nameIn (now (head .entry))) ⌝ }
 {
     has_ident_in_form(head)
-        && (is_real(Date(read_four(head, 18))) && (is_payment(head[22]) && head[23] <= 4))
+        && (is_real(Date(read_four(head, DATE))) && (is_payment(head[PAYMENT]) && head[KIND] <= 4))
 }

@@ -16,7 +16,7 @@ use Rattle.epe.specs.declared.ident.Ident.{Ident}
 use Rattle.epe.specs.declared.name.Name.{Name}
 use Rattle.epe.specs.declared.profile.Profile.{Profile}
 use Rattle.epe.specs.declared.record.Order.{Order}
-use Rattle.model.specs.Shipment.{Shipment, sumOver}
+use Rattle.model.specs.Shipment.{mostShipments, mostRows, Shipment, sumOver}
 use Rattle.model.specs.Calls.{Call, Intake, Transfer, On, Answer, Refused, Accepted, Outcome, transferred, acted}
 use Rattle.model.specs.declared.Row.{Row}
 use Rattle.model.specs.declared.Stage.the-variants.{Waiting}
@@ -91,7 +91,7 @@ entered profile name orders = newShipment name (feeFor profile (name .kind)) (ma
 
 -- "Fewer than 32 shipments in the book? 903. Its orders fit with those present in 2,048 rows? 904"
 abbrev pub roomQuestions : ℕ → Book → List Question
-roomQuestions n book = (ltb (length book) 32 elseNo 903) ∷ (leb (rowsIn book + n) 2048 elseNo 904) ∷ []
+roomQuestions n book = (ltb (length book) mostShipments elseNo 903) ∷ (leb (rowsIn book + n) mostRows elseNo 904) ∷ []
 
 -- "Profile within the ranges above? 905", the opening, "Identifier not yet in the book? 101", the contents, and the room.
 unfoldable pub intakeQuestions : Profile → List ℕ → List ℕ → Book → List Question

@@ -12,6 +12,13 @@ use Rattle.model.specs.declared.Stage.the-variants.{Waiting, Paired, Clo
 use Rattle.model.specs.declared.State.{State}
 use Rattle.model.specs.declared.State.the-variants.{Open, Posted, Paid, Faulty, Undelivered, Withdrawn}
 
+-- "Lent memory with up to 32 shipments in order of intake.", "Its orders fit with those present in 2,048 rows?"
+abbrev pub mostShipments : ℕ
+mostShipments = 32
+
+abbrev pub mostRows : ℕ
+mostRows = 2_048
+
 -- What is meant for K, or for O.
 abbrev pub byMoney {ℓ} : {A : Type ℓ} → Money → A → A → A
 byMoney K k o = k

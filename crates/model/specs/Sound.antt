@@ -13,7 +13,7 @@ use Rattle.money.specs.Money.{isOrderAmount, isOrderFee, isSum}
 use Rattle.money.specs.declared.Money.{Money}
 use Rattle.money.specs.declared.Money.the-variants.{K, O}
 use Rattle.epe.specs.Name.{nameInForm}
-use Rattle.model.specs.Shipment.{Shipment, accepted, returned, isWaiting, isPaired, needOncePaired, anyFaulty}
+use Rattle.model.specs.Shipment.{mostShipments, mostRows, Shipment, accepted, returned, isWaiting, isPaired, needOncePaired, anyFaulty}
 use Rattle.model.specs.Calls.{Call}
 use Rattle.model.specs.Book.{Book, isUnknown, rowsIn, step}
 use Rattle.model.specs.Demand.{bookAt}
@@ -73,7 +73,7 @@ shipmentsSound (s ∷ book) = shipmentSound s && (isUnknown (s .name .ident) boo
 
 -- ".. up to 32 shipments ..", and 2,048 rows in all.
 unfoldable pub sound : Book → Bool
-sound book = leb (length book) 32 && (leb (rowsIn book) 2048 && shipmentsSound book)
+sound book = leb (length book) mostShipments && (leb (rowsIn book) mostRows && shipmentsSound book)
 
 -- The empty book is sound, and every step from a sound book leaves a sound one.
 pub record StaysSound : Type 0 where

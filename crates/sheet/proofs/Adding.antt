@@ -8,14 +8,13 @@ use native.Mathlib.Omega.{arith}
 use Rattle.money.specs.Money.{amount}
 use Rattle.money.specs.declared.Amount.{Amount}
 use Rattle.money.specs.declared.Money.the-variants.{K, O}
-use lib.ListN.{getD}
-use Rattle.model.specs.Shipment.{isPaired, onlyIf, sumOver, holds}
+use Rattle.model.specs.Shipment.{mostRows, isPaired, onlyIf, sumOver, holds}
 use Rattle.model.specs.declared.Row.{Row}
-use Rattle.memory.specs.Number.{numberAt}
 use Rattle.memory.specs.Layout.{headBytes, rowBytes}
-use Rattle.memory.specs.Rows.{rowOf, holdingOf}
-use Rattle.memory.specs.Heads.{stageOf, shipmentIn}
+use Rattle.memory.specs.Rows.{rowOf}
+use Rattle.memory.specs.Heads.{stageIn, orderCountIn, shipmentIn}
 use Rattle.memory.specs.Read.{rowsFrom, ordersAt, shipmentAt, Sits}
+use Rattle.memory.specs.Holdings.{holdingOf}
 use Rattle.sound.proofs.ReadLaws.{rows-many, rows-on, rows-done}
 use Rattle.memory.proofs.HeadFields.{orders-are, paired-is}
 use Rattle.sheet.specs.declared.row.Parts.{Parts}
@@ -87,7 +86,7 @@ module _ {m : List ℕ} {k n : ℕ} where
   }
 
   module _ {parts : Parts} {i left : ℕ} (going : Going m k n parts i left) where
-    pub still-small : 0 < left → n ≤ 2_048 → SmallParts parts
+    pub still-small : 0 < left → n ≤ mostRows → SmallParts parts
     still-small more few = record {
       orders = omega (arith, going .orders);
       amounts = omega (arith, going .amounts-low);
@@ -124,7 +123,7 @@ module _ {m : List ℕ} {k n : ℕ} where
 
 -- the shipment at a place
 module _ (m : List ℕ) (i k : ℕ) {head : List ℕ} (is-head : head ≡ headBytes m i) {paired : Bool}
-    (is-paired : paired ≡ isPaired (stageOf (getD head 28 0))) where
+    (is-paired : paired ≡ isPaired (stageIn head)) where
   paired-test : isPaired (shipmentAt m i k .stage) ≡ paired
   paired-test = sym (is-paired ∙ paired-is m i k is-head)
 
@@ -132,11 +131,11 @@ module _ (m : List ℕ) (i k : ℕ) {head : List ℕ} (is-head : head ≡ headBy
   unfolding partsOncePaired
   none-unpaired unpaired = ap (λ t. cond t noParts noParts) (sym (paired-test ∙ unpaired)) ∙ rw (paired-test ∙ unpaired)
 
-  module _ (sits : Sits m i k) {n : ℕ} (is-count : n ≡ numberAt 2 head 30) where
+  module _ (sits : Sits m i k) {n : ℕ} (is-count : n ≡ orderCountIn head) where
     count-is : n ≡ ordersAt m i
     count-is = is-count ∙ orders-are m i k is-head
 
-    pub rows-there : k + n ≤ 2_048
+    pub rows-there : k + n ≤ mostRows
     rows-there = omega (arith, count-is, sits .room)
 
     pub parts-paired : {parts : Parts} → paired ≡ true → parts ≡ partsOf (rowsFrom m k n) → parts ≡ partsOncePaired (shipmentAt m i k)

@@ -7,6 +7,7 @@ use Prim.Native.Nat.{ℕ, zero, suc, _+_, _≤_, _<_}
 use lib.Dec.{eqb, leb, ltb}
 use lib.ListN.{length, set}
 use Rattle.money.specs.Money.{WithinTotal}
+use Rattle.model.specs.Shipment.{mostShipments, mostRows}
 use Rattle.model.specs.Book.{Book, rowsIn}
 use Rattle.model.specs.Sound.{shipmentsSound}
 use Rattle.memory.specs.Layout.{size}
@@ -26,8 +27,8 @@ use Rattle.sheet.specs.Sheet.{rowFor, plusAll, withinCap}
 -- n shipments are left of a sound book, from head i and row k on.
 pub record Stands (m : List ℕ) (i k n : ℕ) : Type 0 where
   pub enough : size ≤ length m
-  pub few : i + n ≤ 32
-  pub rows : k + rowsIn (shipmentsFrom m i k n) ≤ 2_048
+  pub few : i + n ≤ mostShipments
+  pub rows : k + rowsIn (shipmentsFrom m i k n) ≤ mostRows
   pub sound : shipmentsSound (shipmentsFrom m i k n) ≡ true
 
 -- Four sums within the cap of a total.

@@ -4,25 +4,27 @@ use crate::Fees;
 use crate::SheetRow;
 use memory::head::amounts_accepted;
 use memory::head::amounts_returned;
-use memory::head::fee;
+use memory::head::fees;
 use memory::head::fees_accepted;
 use memory::head::fees_returned;
 use memory::head::head_bytes;
 use memory::head::is_paired;
 use memory::head::orders;
+use memory::holding::holding;
+use memory::holding::holding_table;
 use memory::name::ident;
 use memory::row::amount;
-use memory::row::holding;
-use memory::row::holding_table;
 use memory::row::row_bytes;
 use money::Amount;
 use money::Fee;
 ghost use mathlib.Core.Path.{_≡_};
 ghost use Prim.Native.Nat.{_+_, _≤_, _<_, _^_};
 ghost use lib.ListN.{length};
-ghost use Rattle.memory.specs.Layout.{size};
-ghost use Rattle.memory.specs.Rows.{rowOf, holdingTable};
+ghost use Rattle.model.specs.Shipment.{mostRows};
+ghost use Rattle.memory.specs.Layout.{size, IsRow};
+ghost use Rattle.memory.specs.Rows.{rowOf};
 ghost use Rattle.memory.specs.Read.{rowsFrom, shipmentAt, Sits};
+ghost use Rattle.memory.specs.Holdings.{holdingTable};
 ghost use Rattle.sheet.specs.Sheet.{amountsOf, feesOf, rowFor};
 ghost use Rattle.sheet.specs.Parts.{noParts, withOrder, partsOf, partsOncePaired, SmallParts, divided, amountsFrom, feesFrom};
 
@@ -36,7 +38,7 @@ pub struct Parts {
 
 // The parts with one order more.
 fn with_order(parts: Parts, row: &[u8], table: &[u64]) -> Parts
-    requires { ⌜ (length (now row) ≡ 8) × (now table ≡ holdingTable) × SmallParts parts ⌝ }
+    requires { ⌜ IsRow (now row) × (now table ≡ holdingTable) × SmallParts parts ⌝ }
     ensures { λ r. ⌜ (r ≡ withOrder parts (rowOf (now (row .entry)))) × (r .amounts .0 < parts .amounts .0 + 2 ^ 32) ⌝ }
 {
     let amount = amount(row);
@@ -68,7 +70,7 @@ fn no_parts() -> Parts
 
 // The parts of the n rows from the k-th on.
 fn parts_of(memory: &[u8], k: usize, n: usize) -> Parts
-    requires { ⌜ (k + n ≤ 2_048) × (size ≤ length (now memory)) ⌝ }
+    requires { ⌜ (k + n ≤ mostRows) × (size ≤ length (now memory)) ⌝ }
     ensures { λ r. ⌜ r ≡ partsOf (rowsFrom (now (memory .entry)) k n) ⌝ }
 {
     let table = holding_table();
@@ -142,9 +144,8 @@ fn fees_at(memory: &[u8], i: usize, k: usize, parts: Parts) -> Fees
     let head = head_bytes(memory, i);
     let accepted = fees_accepted(head);
     let returned = fees_returned(head);
-    let fee = fee(head);
-    let need = Fee::sum(fee.0 * parts.orders);
-    let held = Fee::sum(fee.0 * parts.holders);
+    let need = fees(head, parts.orders);
+    let held = fees(head, parts.holders);
     fees_divided(accepted, returned, need, held)
 }
 

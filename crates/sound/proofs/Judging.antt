@@ -3,20 +3,17 @@
 use mathlib.Core.Path.{_≡_, refl, sym}
 use mathlib.Core.Bool.{Bool, true, false, not, cond, _&&_, _||_, false≢true}
 use mathlib.Core.List.{List}
-use Prim.Native.Nat.{ℕ, _+_, _*_, _^_, _≤_, _<_}
-use native.Mathlib.Nat.{mul-le-mul-right}
+use Prim.Native.Nat.{ℕ, _+_, _≤_, _<_}
 use native.Mathlib.Omega.{arith}
 use borrow.Author.Tests.{le-leb, lt-leb, leb-true}
-use lib.ListN.{getD}
 use Rattle.text.proofs.Branches.{and-left, and-right}
 use Rattle.money.specs.Money.{sumCap, isSum, WithinSum}
 use Rattle.money.specs.declared.Money.{Money}
 use Rattle.epe.specs.Name.{nameInForm}
-use Rattle.model.specs.Shipment.{onlyIf, need}
+use Rattle.model.specs.Shipment.{mostRows, onlyIf, need}
 use Rattle.model.specs.Sound.{moneySound, shipmentSound}
-use Rattle.memory.specs.Number.{numberAt}
 use Rattle.memory.specs.Layout.{headBytes}
-use Rattle.memory.specs.Heads.{nameIn, stageOf, flagsInForm, acceptedAt, returnedAt, shipmentIn}
+use Rattle.memory.specs.Heads.{nameIn, stageIn, flagsInForm, orderCountIn, transfersIn, surplusIn, shipmentIn}
 use Rattle.memory.specs.Read.{rowsFrom}
 use Rattle.sound.specs.declared.tally.Tally.{Tally}
 use Rattle.sound.specs.Tally.{tallyOf, pairedIn, waitingIn, rowsFit, goAheadFits, isCovered, moneyFits, moneysFit, judged, JudgedIsSound}
@@ -36,11 +33,7 @@ go-ahead false faulty false t = refl
 
 pub judged-is-sound : JudgedIsSound
 unfolding shipmentSound moneySound need shipmentIn rowsFit goAheadFits isCovered moneyFits moneysFit judged
-judged-is-sound head rows = rw (rows-fit (stageOf (getD head 28 0)) rows, any-faulty rows, go-ahead)
-
--- so many fees, and so many amounts, of four bytes each are a sum
-pub need-most : (n fee : ℕ) → n ≤ 2_048 → fee < 2 ^ 32 → WithinSum (n * fee)
-need-most n fee few small = omega (arith, mul-le-mul-right fee few)
+judged-is-sound head rows = rw (rows-fit (stageIn head) rows, any-faulty rows, go-ahead)
 
 -- the sums of a money, as code asks for them: both in range, then what they cover
 sums-wrong : (a b c : Bool) → (a && b) ≡ false → false ≡ (a && (b && c))
@@ -59,17 +52,17 @@ module _ (m head : List ℕ) (i k : ℕ) (head-is : head ≡ headBytes m i) wher
   unfolding soundAt
   flags-wrong h = rw (← head-is, h)
 
-  module _ (n : ℕ) (n-is : n ≡ numberAt 2 head 30) (flags : flagsInForm head ≡ true) where
-    pub no-room : 2_048 < k + n → false ≡ soundAt m i k
+  module _ (n : ℕ) (n-is : n ≡ orderCountIn head) (flags : flagsInForm head ≡ true) where
+    pub no-room : mostRows < k + n → false ≡ soundAt m i k
     unfolding soundAt
-    no-room h = rw (← head-is, flags, ← n-is, lt-leb (k + n) 2_048 h)
+    no-room h = rw (← head-is, flags, ← n-is, lt-leb (k + n) mostRows h)
 
-    module _ (room : k + n ≤ 2_048) where
+    module _ (room : k + n ≤ mostRows) where
       judged-there : soundAt m i k ≡ (nameInForm (nameIn head) && judged head n (tallyOf (rowsFrom m k n)))
       unfolding soundAt
       judged-there =
           let many = rows-many m k n in
-          rw (← head-is, flags, ← n-is, le-leb (k + n) 2_048 room, judged-is-sound head (rowsFrom m k n), many)
+          rw (← head-is, flags, ← n-is, le-leb (k + n) mostRows room, judged-is-sound head (rowsFrom m k n), many)
 
       pub name-wrong : nameInForm (nameIn head) ≡ false → false ≡ soundAt m i k
       name-wrong h = rw (judged-there, h)
@@ -80,10 +73,10 @@ module _ (m head : List ℕ) (i k : ℕ) (head-is : head ≡ headBytes m i) wher
 
 module _ (head : List ℕ) (money : Money) (need : ℕ) where
   abbrev accepted : ℕ
-  accepted = numberAt 8 head (acceptedAt money)
+  accepted = transfersIn money head
 
   abbrev returned : ℕ
-  returned = numberAt 8 head (returnedAt money)
+  returned = surplusIn money head
 
   abbrev covered : Bool
   covered = isCovered accepted returned (onlyIf (pairedIn head) need) (waitingIn head)
@@ -97,11 +90,11 @@ module _ (head : List ℕ) (money : Money) (need : ℕ) where
   money-right h = sums-right (isSum accepted) (isSum returned) covered h
 
 -- sums that are judged to be in range
-pub sums-are : (head : List ℕ) (money : Money) → (isSum (numberAt 8 head (acceptedAt money)) && isSum (numberAt 8 head (returnedAt money))) ≡ true
-    → WithinSum (numberAt 8 head (acceptedAt money)) × WithinSum (numberAt 8 head (returnedAt money))
+pub sums-are : (head : List ℕ) (money : Money) → (isSum (transfersIn money head) && isSum (surplusIn money head)) ≡ true
+    → WithinSum (transfersIn money head) × WithinSum (surplusIn money head)
 sums-are head money both =
-    let accepted = numberAt 8 head (acceptedAt money) in
-    let returned = numberAt 8 head (returnedAt money) in
+    let accepted = transfersIn money head in
+    let returned = surplusIn money head in
     (leb-true accepted sumCap (and-left (isSum accepted) (isSum returned) both), leb-true returned sumCap (and-right (isSum accepted) (isSum returned) both))
 
 pub only-if-within : (t : Bool) (n : ℕ) → WithinSum n → WithinSum (onlyIf t n)

@@ -8,6 +8,7 @@ use native.Mathlib.Numerals.{add-one}
 use native.Mathlib.Omega.{arith}
 use borrow.Author.Tests.{leb-true}
 use lib.ListN.{length}
+use Rattle.model.specs.Shipment.{mostShipments, mostRows}
 use Rattle.model.specs.Book.{rowsIn}
 use Rattle.model.specs.Sound.{shipmentsSound, sound}
 use Rattle.model.proofs.SoundParts.{halves}
@@ -47,19 +48,19 @@ pub record SoundParts (m : List ℕ) : Type 0 where
   pub enough : size ≤ length m
   pub flags : flagsFrom m 0 (shipmentsIn m) ≡ true
   pub book : sound (bookIn m) ≡ true
-  pub few : shipmentsIn m ≤ 32
-  pub rows : rowsIn (bookIn m) ≤ 2_048
+  pub few : shipmentsIn m ≤ mostShipments
+  pub rows : rowsIn (bookIn m) ≤ mostRows
   pub shipments : shipmentsSound (bookIn m) ≡ true
 
 pub sound-parts : (m : List ℕ) → soundIn m ≡ true → SoundParts m
 unfolding soundIn sound bookIn
 sound-parts m h =
-    let few = leb-true (length (bookIn m)) 32 (search halves) in
+    let few = leb-true (length (bookIn m)) mostShipments (search halves) in
     record {
       enough = leb-true size (length m) (search halves);
       flags = search halves;
       book = search halves;
       few = omega (arith, shipments-many m 0 0 (shipmentsIn m));
-      rows = leb-true (rowsIn (bookIn m)) 2048 (search halves);
+      rows = leb-true (rowsIn (bookIn m)) mostRows (search halves);
       shipments = search halves depth 7;
     }

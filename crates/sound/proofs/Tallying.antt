@@ -12,8 +12,9 @@ use Rattle.money.specs.declared.Amount.{Amount}
 use Rattle.model.specs.Shipment.{onlyIf, sumOver}
 use Rattle.model.specs.declared.Row.{Row}
 use Rattle.memory.specs.Layout.{rowBytes}
-use Rattle.memory.specs.Rows.{rowOf, classOf}
+use Rattle.memory.specs.Rows.{rowOf}
 use Rattle.memory.specs.Read.{rowsFrom}
+use Rattle.memory.specs.Classes.{classOf}
 use Rattle.sound.specs.declared.tally.Tally.{Tally}
 use Rattle.sound.specs.Tally.{outIn, joined, tallied, tallyOf}
 use Rattle.sound.proofs.ReadLaws.{rows-on, rows-done}

@@ -8,10 +8,10 @@ use native.Mathlib.Numerals.{add-one}
 use native.Mathlib.Omega.{arith}
 use borrow.Author.Tests.{leb-true}
 use Rattle.epe.specs.Ident.{sameIdent}
+use Rattle.model.specs.Shipment.{mostRows}
 use Rattle.model.proofs.SoundParts.{halves}
-use Rattle.memory.specs.Number.{numberAt}
 use Rattle.memory.specs.Layout.{headBytes}
-use Rattle.memory.specs.Heads.{nameIn}
+use Rattle.memory.specs.Heads.{nameIn, orderCountIn}
 use Rattle.memory.specs.Read.{ordersAt}
 use Rattle.sound.specs.Walk.{soundAt, soundFrom, othersFrom, apartFrom}
 
@@ -69,12 +69,12 @@ module _ (m : List ℕ) where
     sound-no zero more h = absurd (omega arith)
     sound-no (suc n) more h = rw h
 
-    sound-room : soundAt m i k ≡ true → k + ordersAt m i ≤ 2_048
+    sound-room : soundAt m i k ≡ true → k + ordersAt m i ≤ mostRows
     unfolding soundAt
-    sound-room h = leb-true (k + ordersAt m i) 2_048 (search halves)
+    sound-room h = leb-true (k + ordersAt m i) mostRows (search halves)
 
-    pub sound-on : (head : List ℕ) (orders left : ℕ) → 0 < left → soundAt m i k ≡ true → head ≡ headBytes m i → orders ≡ numberAt 2 head 30
-        → (k + orders ≤ 2_048) × (soundFrom m (i + 1) (k + orders) (left - 1) ≡ soundFrom m i k left)
+    pub sound-on : (head : List ℕ) (orders left : ℕ) → 0 < left → soundAt m i k ≡ true → head ≡ headBytes m i → orders ≡ orderCountIn head
+        → (k + orders ≤ mostRows) × (soundFrom m (i + 1) (k + orders) (left - 1) ≡ soundFrom m i k left)
     unfolding soundFrom
     sound-on head orders zero more h head-is orders-is = absurd (omega arith)
     sound-on head orders (suc n) more h head-is orders-is = rw (orders-is, head-is) (sound-room h, rw (less-one n, add-one, h))

@@ -10,6 +10,7 @@ use lib.Dec.{leb}
 use lib.ListN.{length}
 use Rattle.text.proofs.Branches.{both-yes, both-ways}
 use Rattle.epe.specs.Ident.{sameIdent}
+use Rattle.model.specs.Shipment.{mostShipments, mostRows}
 use Rattle.model.specs.Book.{isUnknown, rowsIn}
 use Rattle.model.specs.Sound.{shipmentSound, shipmentsSound, sound}
 use Rattle.model.proofs.SoundParts.{halves}
@@ -32,12 +33,12 @@ module _ (m : List ℕ) where
       (unless (sameIdent (nameIn head .ident) (nameIn (headBytes m i) .ident)) (othersFrom head m (suc i) n))
 
   -- a sound book's shipments are sound by the walk
-  walked : (i k n : ℕ) → flagsFrom m i n ≡ true → k + rowsIn (shipmentsFrom m i k n) ≤ 2_048
+  walked : (i k n : ℕ) → flagsFrom m i n ≡ true → k + rowsIn (shipmentsFrom m i k n) ≤ mostRows
       → shipmentsSound (shipmentsFrom m i k n) ≡ true → soundFrom m i k n ≡ true
   unfolding flagsFrom shipmentsFrom shipmentsSound soundFrom soundAt
   walked i k zero flags rows h = refl
   walked i k (suc n) flags rows h =
-      let room = le-leb (k + ordersAt m i) 2_048 (omega (arith, rows-next m i k n)) in
+      let room = le-leb (k + ordersAt m i) mostRows (omega (arith, rows-next m i k n)) in
       both-yes _ _ (both-yes (flagsInForm (headBytes m i)) _ (search halves) (both-yes _ (shipmentSound (shipmentAt m i k)) room (search halves)))
       (walked (suc i) (k + ordersAt m i) n (search halves) (omega (arith, rows-next m i k n)) (search halves))
 
@@ -55,11 +56,11 @@ module _ (m : List ℕ) where
   walk-flags i k zero h = refl
   walk-flags i k (suc n) h = both-yes (flagsInForm (headBytes m i)) _ (search halves) (walk-flags (suc i) (k + ordersAt m i) n (search halves))
 
-  walk-rows : (i k n : ℕ) → k ≤ 2_048 → soundFrom m i k n ≡ true → k + rowsIn (shipmentsFrom m i k n) ≤ 2_048
+  walk-rows : (i k n : ℕ) → k ≤ mostRows → soundFrom m i k n ≡ true → k + rowsIn (shipmentsFrom m i k n) ≤ mostRows
   unfolding shipmentsFrom soundFrom soundAt
   walk-rows i k zero room h = omega arith
   walk-rows i k (suc n) room h =
-      let next = leb-true (k + ordersAt m i) 2_048 (search halves) in
+      let next = leb-true (k + ordersAt m i) mostRows (search halves) in
       omega (arith, rows-next m i k n, walk-rows (suc i) (k + ordersAt m i) n next (search halves))
 
   walk-shipments : (i k n : ℕ) → soundFrom m i k n ≡ true → apartFrom m i n ≡ true → shipmentsSound (shipmentsFrom m i k n) ≡ true
@@ -73,14 +74,14 @@ module _ (m : List ℕ) where
       (both-yes _ _ unknown (walk-shipments (suc i) (k + ordersAt m i) n (search halves) (search halves)))
 
   abbrev walk : Bool
-  walk = leb (shipmentsIn m) 32 && (soundFrom m 0 0 (shipmentsIn m) && apartFrom m 0 (shipmentsIn m))
+  walk = leb (shipmentsIn m) mostShipments && (soundFrom m 0 0 (shipmentsIn m) && apartFrom m 0 (shipmentsIn m))
 
   book-walked : soundIn m ≡ true → walk ≡ true
   unfolding bookIn
   book-walked h =
       let n = shipmentsIn m in
       let held = sound-parts m h in
-      both-yes _ _ (le-leb n 32 (held .few))
+      both-yes _ _ (le-leb n mostShipments (held .few))
       (both-yes _ _ (walked 0 0 n (held .flags) (omega (arith, held .rows)) (held .shipments)) (apart 0 0 n (held .shipments)))
 
   walked-book : size ≤ length m → walk ≡ true → soundIn m ≡ true
@@ -88,16 +89,16 @@ module _ (m : List ℕ) where
   walked-book enough h =
       let n = shipmentsIn m in
       let each : soundFrom m 0 0 n ≡ true = search halves in
-      let few = leb-true n 32 (search halves) in
+      let few = leb-true n mostShipments (search halves) in
       both-yes _ _ (le-leb size (length m) enough)
       (both-yes _ _ (walk-flags 0 0 n each)
-      (both-yes _ _ (le-leb (length (bookIn m)) 32 (omega (arith, shipments-many m 0 0 n)))
-      (both-yes _ _ (le-leb (rowsIn (bookIn m)) 2_048 (omega (arith, walk-rows 0 0 n (omega arith) each)))
+      (both-yes _ _ (le-leb (length (bookIn m)) mostShipments (omega (arith, shipments-many m 0 0 n)))
+      (both-yes _ _ (le-leb (rowsIn (bookIn m)) mostRows (omega (arith, walk-rows 0 0 n (omega arith) each)))
       (walk-shipments 0 0 n each (search halves)))))
 
 pub walk-is-sound : WalkIsSound
 walk-is-sound m enough = both-ways _ _ (book-walked m) (walked-book m enough)
 
 pub as-walked : (m : List ℕ) (n : ℕ) (r : Bool) → size ≤ length m → n ≡ shipmentsIn m
-    → r ≡ (leb n 32 && (soundFrom m 0 0 n && apartFrom m 0 n)) → r ≡ soundIn m
+    → r ≡ (leb n mostShipments && (soundFrom m 0 0 n && apartFrom m 0 n)) → r ≡ soundIn m
 as-walked m n r enough n-is told = rw (walk-is-sound m enough, ← n-is) told

@@ -5,7 +5,7 @@ use mathlib.Core.List.{List, [], _∷_}
 use Prim.Native.Nat.{ℕ, _+_, _*_, _%_}
 use lib.Bits.{bitOr}
 use lib.Dec.{leb, ltb, eqb}
-use lib.ListN.{length, getD}
+use lib.ListN.{length}
 use Rattle.money.specs.Money.{amount, isOrderAmount, isOrderFee, isSum}
 use Rattle.money.specs.declared.Money.{Money}
 use Rattle.money.specs.declared.Money.the-variants.{K, O}
@@ -13,9 +13,8 @@ use Rattle.epe.specs.Name.{nameInForm}
 use Rattle.model.specs.Shipment.{isWaiting, isPaired, onlyIf, sumOver}
 use Rattle.model.specs.Sound.{shipmentSound}
 use Rattle.model.specs.declared.Row.{Row}
-use Rattle.memory.specs.Number.{numberAt}
-use Rattle.memory.specs.Rows.{classOf}
-use Rattle.memory.specs.Heads.{nameIn, stageOf, goAheadIn, acceptedAt, returnedAt, shipmentIn}
+use Rattle.memory.specs.Heads.{nameIn, feeIn, stageIn, goAheadIn, transfersIn, surplusIn, shipmentIn}
+use Rattle.memory.specs.Classes.{classOf}
 use Rattle.sound.specs.declared.tally.Tally.{Tally}
 
 -- A row joins its state's class, and counts where its amount is out of range.
@@ -42,10 +41,10 @@ abbrev pub faultyIn : Tally → Bool
 faultyIn tally = eqb (tally .classes % 2) 1
 
 abbrev pub pairedIn : List ℕ → Bool
-pairedIn head = isPaired (stageOf (getD head 28 0))
+pairedIn head = isPaired (stageIn head)
 
 abbrev pub waitingIn : List ℕ → Bool
-waitingIn head = isWaiting (stageOf (getD head 28 0))
+waitingIn head = isWaiting (stageIn head)
 
 -- The questions of `shipmentSound`, by a head and a tally.
 unfoldable pub rowsFit : List ℕ → Tally → Bool
@@ -60,16 +59,16 @@ isCovered accepted returned need waiting = leb (returned + need) accepted && (no
 
 unfoldable pub moneyFits : List ℕ → Money → ℕ → Bool
 moneyFits head money need =
-    isSum (numberAt 8 head (acceptedAt money))
-    && (isSum (numberAt 8 head (returnedAt money))
-    && isCovered (numberAt 8 head (acceptedAt money)) (numberAt 8 head (returnedAt money)) (onlyIf (pairedIn head) need) (waitingIn head))
+    isSum (transfersIn money head)
+    && (isSum (surplusIn money head)
+    && isCovered (transfersIn money head) (surplusIn money head) (onlyIf (pairedIn head) need) (waitingIn head))
 
 unfoldable pub moneysFit : List ℕ → ℕ → Tally → Bool
-moneysFit head n tally = moneyFits head K (tally .amounts .0) && moneyFits head O (n * numberAt 4 head 24)
+moneysFit head n tally = moneyFits head K (tally .amounts .0) && moneyFits head O (n * feeIn head)
 
 unfoldable pub judged : List ℕ → ℕ → Tally → Bool
 judged head n tally =
-    isOrderFee (numberAt 4 head 24)
+    isOrderFee (feeIn head)
     && (leb 1 n
     && (rowsFit head tally
     && (goAheadFits head tally && moneysFit head n tally)))

@@ -6,13 +6,14 @@ use Prim.Native.Nat.{ℕ, zero, suc, _+_, _≤_}
 use lib.Dec.{leb}
 use lib.ListN.{length}
 use Rattle.epe.specs.Ident.{sameIdent}
+use Rattle.model.specs.Shipment.{mostShipments, mostRows}
 use Rattle.model.specs.Sound.{shipmentSound}
 use Rattle.memory.specs.Layout.{size, headBytes}
 use Rattle.memory.specs.Heads.{nameIn, flagsInForm}
 use Rattle.memory.specs.Read.{ordersAt, shipmentAt, shipmentsIn, soundIn}
 
 unfoldable pub soundAt : List ℕ → ℕ → ℕ → Bool
-soundAt m i k = flagsInForm (headBytes m i) && (leb (k + ordersAt m i) 2_048 && shipmentSound (shipmentAt m i k))
+soundAt m i k = flagsInForm (headBytes m i) && (leb (k + ordersAt m i) mostRows && shipmentSound (shipmentAt m i k))
 
 unfoldable pub soundFrom : List ℕ → ℕ → ℕ → ℕ → Bool
 soundFrom m i k zero = true
@@ -30,4 +31,4 @@ apartFrom m i (suc n) = othersFrom (headBytes m i) m (suc i) n && apartFrom m (s
 -- This walk answers whether memory that is long enough is sound.
 abbrev pub WalkIsSound : Type 0
 WalkIsSound = (m : List ℕ) → size ≤ length m
-    → soundIn m ≡ (leb (shipmentsIn m) 32 && (soundFrom m 0 0 (shipmentsIn m) && apartFrom m 0 (shipmentsIn m)))
+    → soundIn m ≡ (leb (shipmentsIn m) mostShipments && (soundFrom m 0 0 (shipmentsIn m) && apartFrom m 0 (shipmentsIn m)))

@@ -4,12 +4,13 @@ use memory::name::are_namesakes;
 ghost use mathlib.Core.Path.{_≡_};
 ghost use Prim.Native.Nat.{_+_, _≤_, _<_};
 ghost use lib.ListN.{length};
+ghost use Rattle.model.specs.Shipment.{mostShipments};
 ghost use Rattle.memory.specs.Layout.{size, headBytes};
 ghost use Rattle.sound.specs.Walk.{othersFrom, apartFrom};
 
 // Have n heads from the j-th on another identifier than head i?
 fn are_others(memory: &[u8], i: usize, from: usize, n: usize) -> bool
-    requires { ⌜ (i < 32) × (from + n ≤ 32) × (size ≤ length (now memory)) ⌝ }
+    requires { ⌜ (i < mostShipments) × (from + n ≤ mostShipments) × (size ≤ length (now memory)) ⌝ }
     ensures { λ r. ⌜ r ≡ othersFrom (headBytes (now (memory .entry)) i) (now (memory .entry)) from n ⌝ }
 {
     let head = head_bytes(memory, i);
@@ -27,7 +28,7 @@ fn are_others(memory: &[u8], i: usize, from: usize, n: usize) -> bool
 
 // Are the identifiers of n heads all different?
 pub fn are_apart(memory: &[u8], n: usize) -> bool
-    requires { ⌜ (n ≤ 32) × (size ≤ length (now memory)) ⌝ }
+    requires { ⌜ (n ≤ mostShipments) × (size ≤ length (now memory)) ⌝ }
     ensures { λ r. ⌜ r ≡ apartFrom (now (memory .entry)) 0 n ⌝ }
 {
     let mut i = 0;

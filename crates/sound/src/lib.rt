@@ -1,12 +1,13 @@
 // Whether lent memory is a sound book, judged in one pass over its heads and rows.
 mod apart;
-pub mod shipment;
+mod shipment;
 mod tally;
 
 use crate::apart::are_apart;
 use crate::shipment::are_sound;
+use memory::MOST_SHIPMENTS;
 use memory::SIZE;
-use memory::row::class_table;
+use memory::class::class_table;
 use memory::shipments;
 ghost use mathlib.Core.Path.{_≡_};
 ghost use Rattle.memory.specs.Read.{soundIn};
@@ -20,5 +21,5 @@ pub fn is_sound(memory: &[u8]) -> bool
     }
     let table = class_table();
     let n = shipments(memory);
-    n <= 32 && (are_sound(memory, n, &table) && are_apart(memory, n))
+    n <= MOST_SHIPMENTS && (are_sound(memory, n, &table) && are_apart(memory, n))
 }

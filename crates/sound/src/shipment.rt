@@ -4,8 +4,10 @@ use crate::tally::OUT_OF_RANGE;
 use crate::tally::Tally;
 use crate::tally::has_faulty;
 use crate::tally::tally_by;
+use memory::MOST_ROWS;
 use memory::head::accepted;
 use memory::head::fee;
+use memory::head::fees;
 use memory::head::has_flags_in_form;
 use memory::head::has_go_ahead;
 use memory::head::has_sums_in_range;
@@ -15,23 +17,22 @@ use memory::head::is_waiting;
 use memory::head::orders;
 use memory::head::returned;
 use memory::name::has_name_in_form;
-use money::Fee;
 use money::Sum;
 ghost use mathlib.Core.Path.{_≡_};
-ghost use Prim.Native.Nat.{_*_, _≤_, _<_};
+ghost use Prim.Native.Nat.{_≤_, _<_};
 ghost use lib.ListN.{length};
 ghost use Rattle.money.specs.Money.{fee, isOrderFee, WithinSum, sumOf, groszeIn, moneyOfSum};
-ghost use Rattle.model.specs.Shipment.{onlyIf};
-ghost use Rattle.memory.specs.Number.{numberAt};
-ghost use Rattle.memory.specs.Layout.{size};
-ghost use Rattle.memory.specs.Rows.{classTable};
+ghost use Rattle.model.specs.Shipment.{mostShipments, mostRows, onlyIf};
+ghost use Rattle.memory.specs.Layout.{size, IsHead};
+ghost use Rattle.memory.specs.Heads.{feeIn};
+ghost use Rattle.memory.specs.Classes.{classTable};
 ghost use Rattle.sound.specs.Tally.{pairedIn, rowsFit, goAheadFits, isCovered, moneyFits, moneysFit, judged};
 ghost use Rattle.sound.specs.Walk.{soundAt, soundFrom};
 
 // Is the fee in range?
 fn is_fee_in_range(head: &[u8]) -> bool
-    requires { ⌜ length (now head) ≡ 64 ⌝ }
-    ensures { λ r. ⌜ r ≡ isOrderFee (numberAt 4 (now (head .entry)) 24) ⌝ }
+    requires { ⌜ IsHead (now head) ⌝ }
+    ensures { λ r. ⌜ r ≡ isOrderFee (feeIn (now (head .entry))) ⌝ }
 {
     let fee = fee(head);
     fee.is_order()
@@ -39,7 +40,7 @@ fn is_fee_in_range(head: &[u8]) -> bool
 
 // May the shipment, Paired or not, have such rows?
 fn do_rows_fit(head: &[u8], tally: Tally) -> bool
-    requires { ⌜ length (now head) ≡ 64 ⌝ }
+    requires { ⌜ IsHead (now head) ⌝ }
     ensures { λ r. ⌜ r ≡ rowsFit (now (head .entry)) tally ⌝ }
 {
     if 0 < tally.out {
@@ -53,7 +54,7 @@ fn do_rows_fit(head: &[u8], tally: Tally) -> bool
 
 // Does the go-ahead, or none, fit the faults?
 fn does_go_ahead_fit(head: &[u8], tally: Tally) -> bool
-    requires { ⌜ length (now head) ≡ 64 ⌝ }
+    requires { ⌜ IsHead (now head) ⌝ }
     ensures { λ r. ⌜ r ≡ goAheadFits (now (head .entry)) tally ⌝ }
 {
     let faulty = has_faulty(tally);
@@ -66,18 +67,9 @@ fn does_go_ahead_fit(head: &[u8], tally: Tally) -> bool
     true
 }
 
-// The fees of n orders.
-pub fn fees(head: &[u8], n: u64) -> Fee
-    requires { ⌜ (length (now head) ≡ 64) × (n ≤ 2_048) ⌝ }
-    ensures { λ r. ⌜ (r ≡ fee (n * numberAt 4 (now (head .entry)) 24)) × WithinSum (r .0) ⌝ }
-{
-    let fee = fee(head);
-    Fee::sum(n * fee.0)
-}
-
 // What is needed once the shipment is Paired, and nothing before.
 fn need_once_paired(head: &[u8], need: Sum) -> Sum
-    requires { ⌜ length (now head) ≡ 64 ⌝ }
+    requires { ⌜ IsHead (now head) ⌝ }
     ensures { λ r. ⌜ r ≡ sumOf (moneyOfSum need) (onlyIf (pairedIn (now (head .entry))) (groszeIn need)) ⌝ }
 {
     if is_paired(head) {
@@ -98,7 +90,7 @@ fn is_covered(accepted: Sum, returned: Sum, need: Sum, waiting: bool) -> bool
 
 // Do the sums of a money fit, for what is needed of it?
 fn does_money_fit(head: &[u8], need: Sum) -> bool
-    requires { ⌜ (length (now head) ≡ 64) × WithinSum (groszeIn need) ⌝ }
+    requires { ⌜ IsHead (now head) × WithinSum (groszeIn need) ⌝ }
     ensures { λ r. ⌜ r ≡ moneyFits (now (head .entry)) (moneyOfSum need) (groszeIn need) ⌝ }
 {
     let money = need.money();
@@ -115,7 +107,7 @@ fn does_money_fit(head: &[u8], need: Sum) -> bool
 
 // Do the sums of both moneys fit a shipment of n orders?
 fn do_moneys_fit(head: &[u8], n: u64, tally: Tally) -> bool
-    requires { ⌜ (length (now head) ≡ 64) × (n ≤ 2_048) × WithinSum (tally .amounts .0) ⌝ }
+    requires { ⌜ IsHead (now head) × (n ≤ mostRows) × WithinSum (tally .amounts .0) ⌝ }
     ensures { λ r. ⌜ r ≡ moneysFit (now (head .entry)) n tally ⌝ }
 {
     let amounts = tally.amounts;
@@ -124,7 +116,7 @@ fn do_moneys_fit(head: &[u8], n: u64, tally: Tally) -> bool
 
 // Is a shipment of n orders sound, but for its name?
 fn judge(head: &[u8], n: u64, tally: Tally) -> bool
-    requires { ⌜ (length (now head) ≡ 64) × (n ≤ 2_048) × WithinSum (tally .amounts .0) ⌝ }
+    requires { ⌜ IsHead (now head) × (n ≤ mostRows) × WithinSum (tally .amounts .0) ⌝ }
     ensures { λ r. ⌜ r ≡ judged (now (head .entry)) n tally ⌝ }
 {
     is_fee_in_range(head)
@@ -135,7 +127,7 @@ fn judge(head: &[u8], n: u64, tally: Tally) -> bool
 
 // Is the shipment of head i sound, its rows from the k-th on?
 fn is_sound_at(memory: &[u8], i: usize, k: usize, table: &[u8]) -> bool
-    requires { ⌜ (i < 32) × (k ≤ 2_048) × (size ≤ length (now memory)) × (now table ≡ classTable) ⌝ }
+    requires { ⌜ (i < mostShipments) × (k ≤ mostRows) × (size ≤ length (now memory)) × (now table ≡ classTable) ⌝ }
     ensures { λ r. ⌜ r ≡ soundAt (now (memory .entry)) i k ⌝ }
 {
     let head = head_bytes(memory, i);
@@ -143,7 +135,7 @@ fn is_sound_at(memory: &[u8], i: usize, k: usize, table: &[u8]) -> bool
         return false;
     }
     let n = orders(head);
-    if 2_048 < k as u64 + n {
+    if MOST_ROWS < k + n as usize {
         return false;
     }
     if !has_name_in_form(head) {
@@ -154,7 +146,7 @@ fn is_sound_at(memory: &[u8], i: usize, k: usize, table: &[u8]) -> bool
 
 // Are n shipments sound, each by itself?
 pub fn are_sound(memory: &[u8], n: usize, table: &[u8]) -> bool
-    requires { ⌜ (n ≤ 32) × (size ≤ length (now memory)) × (now table ≡ classTable) ⌝ }
+    requires { ⌜ (n ≤ mostShipments) × (size ≤ length (now memory)) × (now table ≡ classTable) ⌝ }
     ensures { λ r. ⌜ r ≡ soundFrom (now (memory .entry)) 0 0 n ⌝ }
 {
     let mut i = 0;

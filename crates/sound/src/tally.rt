@@ -1,15 +1,17 @@
 // The rows of a shipment, taken together for its soundness.
+use memory::class::class;
 use memory::row::amount;
-use memory::row::class;
 use memory::row::row_bytes;
 use money::Amount;
 ghost use mathlib.Core.Path.{_≡_};
 ghost use Prim.Native.Nat.{_+_, _*_, _≤_, _<_, _^_};
 ghost use lib.ListN.{length};
 ghost use Rattle.money.specs.Money.{WithinSum};
-ghost use Rattle.memory.specs.Layout.{size};
-ghost use Rattle.memory.specs.Rows.{rowOf, classTable};
+ghost use Rattle.model.specs.Shipment.{mostRows};
+ghost use Rattle.memory.specs.Layout.{size, IsRow};
+ghost use Rattle.memory.specs.Rows.{rowOf};
 ghost use Rattle.memory.specs.Read.{rowsFrom};
+ghost use Rattle.memory.specs.Classes.{classTable};
 ghost use Rattle.sound.specs.Tally.{tallied, tallyOf, faultyIn};
 
 // The classes from here on are of states that only a Paired shipment may have.
@@ -27,7 +29,7 @@ pub struct Tally {
 
 // The tally with one row more.
 fn with_row(tally: Tally, row: &[u8], table: &[u8]) -> Tally
-    requires { ⌜ (length (now row) ≡ 8) × (now table ≡ classTable) × WithinSum (tally .amounts .0 + 2 ^ 32) × (tally .out < 2 ^ 60) ⌝ }
+    requires { ⌜ IsRow (now row) × (now table ≡ classTable) × WithinSum (tally .amounts .0 + 2 ^ 32) × (tally .out < 2 ^ 60) ⌝ }
     ensures { λ r. ⌜ (r ≡ tallied tally (rowOf (now (row .entry)))) × (r .amounts .0 < tally .amounts .0 + 2 ^ 32) ⌝ }
 {
     let amount = amount(row);
@@ -44,7 +46,7 @@ fn with_row(tally: Tally, row: &[u8], table: &[u8]) -> Tally
 
 // The tally of the n rows from the k-th on, by the table of classes.
 pub fn tally_by(memory: &[u8], k: usize, n: usize, table: &[u8]) -> Tally
-    requires { ⌜ (k + n ≤ 2_048) × (size ≤ length (now memory)) × (now table ≡ classTable) ⌝ }
+    requires { ⌜ (k + n ≤ mostRows) × (size ≤ length (now memory)) × (now table ≡ classTable) ⌝ }
     ensures { λ r. ⌜ (r ≡ tallyOf (rowsFrom (now (memory .entry)) k n)) × (r .amounts .0 ≤ n * 2 ^ 32) ⌝ }
 {
     let nothing = Amount::sum(0);

@@ -3,7 +3,7 @@ use mathlib.Core.Path.{_≡_}
 use Prim.Native.Nat.{_-_, _*_, _^_, _≤_}
 use native.Mathlib.Omega.{arith}
 use Rattle.model.specs.declared.Route.{Route}
-use Rattle.memory.specs.Rows.{WaitTable}
+use Rattle.memory.specs.Returns.{WaitTable}
 use Rattle.book.proofs.Returns.{Clearing, none-cleared, one-more-cleared, worth-is, all-cleared}
 use borrow.Author.Needs.{needs}
 use Rattle.book.proofs.route.clear.Statement.{statement}

@@ -44,6 +44,9 @@ array-write-head-4 c = search needs
 cast-head-4 : tie.Need-cast-head-4
 cast-head-4 c = search needs
 
+add-head : tie.Need-add-head
+add-head c = search needs
+
 array-write-head-5 : tie.Need-array-write-head-5
 array-write-head-5 c = search needs
 
@@ -67,5 +70,6 @@ fields-spec =
     cast-head-3
     array-write-head-4
     cast-head-4
+    add-head
     array-write-head-5
     returns)

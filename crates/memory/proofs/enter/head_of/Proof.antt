@@ -9,6 +9,7 @@ use Rattle.memory.proofs.EnterLaws.{one-more}
 use borrow.Author.Needs.{needs}
 use Rattle.memory.proofs.enter.head_of.Statement.{statement}
 use Rattle.memory.proofs.enter.head_of.Tie as tie
+use Rattle.memory.specs.Layout.{IsHead}
 
 abbrev Inv-loop : tie.InvT-loop
 Inv-loop n bytes head₀ j₀ head j = (j ≤ 17) × (head ≡ take j bytes ++ drop j head₀)
@@ -40,7 +41,7 @@ loop-again c =
     let bytes = turn .before .before .before .args .name .ident .bytes in
     let head₀ = turn .before .fields .result in
     let long : length bytes ≡ 17 = search needs in
-    let whole : length head₀ ≡ 64 = search needs in (
+    let whole : IsHead head₀ = search needs in (
       omega arith,
       ap (λ head. set head (turn .loop .j) (getD bytes (turn .loop .j) 0)) (turn .loop .inv .1)
           ∙ one-more bytes head₀ (turn .loop .j) (omega arith) (omega arith),

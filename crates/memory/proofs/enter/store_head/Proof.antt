@@ -2,17 +2,17 @@
 use mathlib.Core.Path.{_≡_}
 use Prim.Native.Nat.{_-_}
 use native.Mathlib.Omega.{arith}
-use lib.ListN.{length}
 use Rattle.memory.proofs.EnterLaws.{Storing, storing-none, storing-one-more, head-stored}
 use borrow.Author.Needs.{needs}
 use Rattle.memory.proofs.enter.store_head.Statement.{statement}
 use Rattle.memory.proofs.enter.store_head.Tie as tie
+use Rattle.memory.specs.Layout.{headSize, IsHead}
 
 abbrev Inv-loop : tie.InvT-loop
 Inv-loop memory₀ i head at j₀ memory j = Storing head j i memory₀ memory
 
 abbrev μ-loop : tie.MeasureT-loop
-μ-loop memory₀ i head at j₀ memory j = 64 - j
+μ-loop memory₀ i head at j₀ memory j = headSize - j
 
 mul-at : tie.Need-mul-at Inv-loop μ-loop
 mul-at c = search needs
@@ -41,7 +41,7 @@ loop-less c = search needs
 loop-again : tie.Need-loop-again Inv-loop μ-loop
 loop-again c =
     let start = c .before .before in
-    let whole : length (start .args .t3) ≡ 64 = omega arith in
+    let whole : IsHead (start .args .t3) = omega arith in
     storing-one-more (start .args .t3) (start .args .i) (start .args .memory .now) whole (start .pre .0) (start .pre .1) (c .before .loop .j)
     (c .before .loop .memory) (c .loop-test .taken) (c .before .loop .inv)
 
@@ -51,8 +51,8 @@ same-length c = search needs
 returns : tie.Need-returns Inv-loop μ-loop
 returns c =
     let start = c .before .before in
-    let whole : length (start .args .t3) ≡ 64 = omega arith in
-    let end : c .before .loop .j ≡ 64 = omega arith in
+    let whole : IsHead (start .args .t3) = omega arith in
+    let end : c .before .loop .j ≡ headSize = omega arith in
     head-stored (start .args .t3) (start .args .i) (start .args .memory .now) whole (start .pre .0) (start .pre .1) (c .before .loop .memory)
     (rw end at (c .before .loop .inv))
 

@@ -1,7 +1,6 @@
 -- `memory::head::head_bytes` is a part of the memory.
-use Prim.Native.Nat.{_+_, _*_}
 use native.Mathlib.Omega.{arith}
-use Rattle.memory.specs.Layout.{headBytes}
+use Rattle.memory.specs.Layout.{headSize, headAt, headBytes}
 use Rattle.memory.proofs.Parts.{part-there}
 use borrow.Author.Needs.{needs}
 use Rattle.memory.proofs.head.head_bytes.Statement.{statement}
@@ -27,7 +26,7 @@ part-result-end c = search needs
 
 returns : tie.Need-returns
 unfolding headBytes
-returns c = let start = c .before .args in part-there (start .memory .now) (64 + 64 * start .i) 64 (omega arith)
+returns c = let start = c .before .args in part-there (start .memory .now) (headAt (start .i)) headSize (omega arith)
 
 pub head-bytes-spec : {M : Type 1} → statement M
 head-bytes-spec =

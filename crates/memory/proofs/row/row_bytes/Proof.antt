@@ -1,7 +1,6 @@
 -- `memory::row::row_bytes` is a part of the memory.
-use Prim.Native.Nat.{_+_, _*_}
 use native.Mathlib.Omega.{arith}
-use Rattle.memory.specs.Layout.{rowBytes}
+use Rattle.memory.specs.Layout.{rowSize, rowAt, rowBytes}
 use Rattle.memory.proofs.Parts.{part-there}
 use borrow.Author.Needs.{needs}
 use Rattle.memory.proofs.row.row_bytes.Statement.{statement}
@@ -27,7 +26,7 @@ part-result-end c = search needs
 
 returns : tie.Need-returns
 unfolding rowBytes
-returns c = let start = c .before .args in part-there (start .memory .now) (2_112 + 8 * start .k) 8 (omega arith)
+returns c = let start = c .before .args in part-there (start .memory .now) (rowAt (start .k)) rowSize (omega arith)
 
 pub row-bytes-spec : {M : Type 1} → statement M
 row-bytes-spec =

@@ -2,7 +2,8 @@
 use mathlib.Core.Path.{ap, _∙_}
 use Prim.Native.Nat.{_%_}
 use native.Mathlib.Omega.{arith}
-use Rattle.memory.specs.Rows.{stateOf, rowOf}
+use Rattle.memory.specs.States.{stateOf}
+use Rattle.memory.specs.Rows.{stateAt, rowOf}
 use Rattle.memory.proofs.Numbers.{lowest-byte}
 use borrow.Author.Needs.{needs}
 use Rattle.memory.proofs.row.state_bits.Statement.{statement}
@@ -15,9 +16,9 @@ returns : tie.Need-returns
 unfolding rowOf
 returns c =
     let row = c .before .before .args .row .now in
-    let byte = c .before .shared-slice-known .given 4 in
+    let byte = c .before .shared-slice-known .given stateAt in
     let read = c .read-four .ensures .0 in
-    (read, ap stateOf (ap (λ bits. bits % 256) read ∙ lowest-byte 3 row 4 (omega arith)))
+    (read, ap stateOf (ap (λ bits. bits % 256) read ∙ lowest-byte 3 row stateAt (omega arith)))
 
 pub state-bits-spec : {M : Type 1} → statement M
 state-bits-spec = tie.close (tie.spec read-four-requires returns)

@@ -5,7 +5,7 @@ use Rattle.money.specs.declared.Fee.{Fee}
 use Rattle.money.specs.declared.Money.the-variants.{O}
 use Rattle.memory.proofs.HeadFields.{fee-is, accepted-within, returned-within}
 use Rattle.sheet.specs.Parts.{feesFrom}
-use Rattle.sheet.proofs.Dividing.{fees-needed, fees-held, fees-needed-fit, fees-held-fit, division-is}
+use Rattle.sheet.proofs.Dividing.{fees-needed, fees-held, few-parts, division-is}
 use borrow.Author.Needs.{needs}
 use Rattle.sheet.proofs.row.fees_at.Statement.{statement}
 use Rattle.sheet.proofs.row.fees_at.Tie as tie
@@ -28,42 +28,17 @@ fees-returned-requires c κs =
     let start = head .before .before in
     (head .head-bytes .ensures .1, returned-within _ (start .args .i) (start .args .k) (head .head-bytes .ensures .0) (start .pre .0) O)
 
-fee-requires : tie.Need-fee-requires
-fee-requires c κs = search needs
-
-mul-sum : tie.Need-mul-sum
-mul-sum c =
-    let fee = c .before .before in
-    let head = fee .before .before .before in
+fees-requires : tie.Need-fees-requires
+fees-requires c κs =
+    let head = c .before .before in
     let start = head .before .before in
-    let fee-known = ap groszeOf (fee .fee .ensures .0) ∙ fee-is _ (start .args .i) (start .args .k) (head .head-bytes .ensures .0) in
-    let fits = fees-needed-fit _ (start .pre .1) fee-known (start .pre .0 .sound) in
-    search needs
+    (head .head-bytes .ensures .1, few-parts _ (start .args .i) (start .args .k) (start .pre .0) (start .pre .1) .0)
 
-sum-requires : tie.Need-sum-requires
-sum-requires c κs =
-    let fee = c .before .before in
-    let head = fee .before .before .before in
+fees-requires-2 : tie.Need-fees-requires-2
+fees-requires-2 c κs =
+    let head = c .before .before .before in
     let start = head .before .before in
-    let fee-known = ap groszeOf (fee .fee .ensures .0) ∙ fee-is _ (start .args .i) (start .args .k) (head .head-bytes .ensures .0) in
-    fees-needed-fit _ (start .pre .1) fee-known (start .pre .0 .sound)
-
-mul-sum-2 : tie.Need-mul-sum-2
-mul-sum-2 c =
-    let fee = c .before .before .before .before .before in
-    let head = fee .before .before .before in
-    let start = head .before .before in
-    let fee-known = ap groszeOf (fee .fee .ensures .0) ∙ fee-is _ (start .args .i) (start .args .k) (head .head-bytes .ensures .0) in
-    let fits = fees-held-fit _ (start .pre .1) fee-known (start .pre .0 .sound) in
-    search needs
-
-sum-requires-2 : tie.Need-sum-requires-2
-sum-requires-2 c κs =
-    let fee = c .before .before .before .before .before in
-    let head = fee .before .before .before in
-    let start = head .before .before in
-    let fee-known = ap groszeOf (fee .fee .ensures .0) ∙ fee-is _ (start .args .i) (start .args .k) (head .head-bytes .ensures .0) in
-    fees-held-fit _ (start .pre .1) fee-known (start .pre .0 .sound)
+    (head .head-bytes .ensures .1, few-parts _ (start .args .i) (start .args .k) (start .pre .0) (start .pre .1) .1)
 
 fees-divided-requires : tie.Need-fees-divided-requires
 fees-divided-requires c κs = search needs
@@ -71,18 +46,17 @@ fees-divided-requires c κs = search needs
 returns : tie.Need-returns
 returns c =
     let held = c .before in
-    let need = held .before .before .before in
-    let fee = need .before .before .before in
-    let returned = fee .before in
+    let need = held .before in
+    let returned = need .before in
     let accepted = returned .before in
     let head = accepted .before in
     let start = head .before .before in
-    let fee-known = ap groszeOf (fee .fee .ensures .0) ∙ fee-is _ (start .args .i) (start .args .k) (head .head-bytes .ensures .0) in
+    let fee-known = fee-is _ (start .args .i) (start .args .k) (head .head-bytes .ensures .0) in
     c .fees-divided .ensures
     ∙ ap feesFrom
     (division-is _ (start .args .i) (start .args .k) (start .pre .0) (head .head-bytes .ensures .0) O (ap groszeOf (accepted .fees-accepted .ensures))
-    (ap groszeOf (returned .fees-returned .ensures)) (ap groszeOf (need .sum .ensures) ∙ fees-needed _ (start .pre .1) fee-known)
-    (ap groszeOf (held .sum2 .ensures) ∙ fees-held _ (start .pre .1) fee-known))
+    (ap groszeOf (returned .fees-returned .ensures)) (ap groszeOf (need .fees .ensures .0) ∙ fees-needed _ (start .pre .1) fee-known)
+    (ap groszeOf (held .fees2 .ensures .0) ∙ fees-held _ (start .pre .1) fee-known))
 
 pub fees-at-spec : {M : Type 1} → statement M
 fees-at-spec =
@@ -91,10 +65,7 @@ fees-at-spec =
     head-bytes-requires
     fees-accepted-requires
     fees-returned-requires
-    fee-requires
-    mul-sum
-    sum-requires
-    mul-sum-2
-    sum-requires-2
+    fees-requires
+    fees-requires-2
     fees-divided-requires
     returns)

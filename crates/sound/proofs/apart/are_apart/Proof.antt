@@ -7,9 +7,10 @@ use Rattle.sound.proofs.Turns.{apart-end, apart-no, apart-on}
 use borrow.Author.Needs.{needs}
 use Rattle.sound.proofs.apart.are_apart.Statement.{statement}
 use Rattle.sound.proofs.apart.are_apart.Tie as tie
+use Rattle.model.specs.Shipment.{mostShipments}
 
 abbrev Inv-loop : tie.InvT-loop
-Inv-loop memory n i₀ left₀ i left = (i + left ≤ 32) × (apartFrom memory i left ≡ apartFrom memory 0 n)
+Inv-loop memory n i₀ left₀ i left = (i + left ≤ mostShipments) × (apartFrom memory i left ≡ apartFrom memory 0 n)
 
 abbrev μ-loop : tie.MeasureT-loop
 μ-loop memory n i₀ left₀ i left = left

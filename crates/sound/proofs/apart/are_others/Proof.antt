@@ -3,13 +3,14 @@ use mathlib.Core.Path.{_≡_, _∙_}
 use Prim.Native.Nat.{_+_, _≤_}
 use Rattle.sound.specs.Walk.{othersFrom}
 use Rattle.sound.proofs.Turns.{others-end, others-no, others-on}
+use Rattle.model.specs.Shipment.{mostShipments}
 use Rattle.memory.specs.Layout.{headBytes}
 use borrow.Author.Needs.{needs}
 use Rattle.sound.proofs.apart.are_others.Statement.{statement}
 use Rattle.sound.proofs.apart.are_others.Tie as tie
 
 abbrev Inv-loop : tie.InvT-loop
-Inv-loop memory i from n head j₀ left₀ j left = (j + left ≤ 32) × (othersFrom head memory j left ≡ othersFrom (headBytes memory i) memory from n)
+Inv-loop memory i from n head j₀ left₀ j left = (j + left ≤ mostShipments) × (othersFrom head memory j left ≡ othersFrom (headBytes memory i) memory from n)
 
 abbrev μ-loop : tie.MeasureT-loop
 μ-loop memory i from n head j₀ left₀ j left = left

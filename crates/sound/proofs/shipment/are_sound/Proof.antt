@@ -7,9 +7,10 @@ use Rattle.sound.proofs.Turns.{sound-end, sound-no, sound-on}
 use borrow.Author.Needs.{needs}
 use Rattle.sound.proofs.shipment.are_sound.Statement.{statement}
 use Rattle.sound.proofs.shipment.are_sound.Tie as tie
+use Rattle.model.specs.Shipment.{mostShipments, mostRows}
 
 abbrev Inv-loop : tie.InvT-loop
-Inv-loop memory n table i₀ k₀ left₀ i k left = (i + left ≤ 32) × ((k ≤ 2_048) × (soundFrom memory i k left ≡ soundFrom memory 0 0 n))
+Inv-loop memory n table i₀ k₀ left₀ i k left = (i + left ≤ mostShipments) × ((k ≤ mostRows) × (soundFrom memory i k left ≡ soundFrom memory 0 0 n))
 
 abbrev μ-loop : tie.MeasureT-loop
 μ-loop memory n table i₀ k₀ left₀ i k left = left
