@@ -3,16 +3,16 @@
 use mathlib.Core.Path.{_≡_, refl, sym, ap}
 use mathlib.Core.Bool.{Bool, true, false}
 use mathlib.Core.List.{List}
-use Prim.Native.Nat.{ℕ}
-use Rattle.model.specs.Shipment.{Shipment}
+use Prim.Native.Nat.{ℕ, _<_}
+use Rattle.model.specs.Shipment.{mostShipments, Shipment}
 use Rattle.model.specs.Calls.{Answer, Refused, changesNothing, Outcome, leave, withRows}
 use Rattle.model.specs.declared.Row.{Row}
 use Rattle.model.proofs.Asking.{not-both}
-use Rattle.memory.specs.Layout.{headBytes, OnlyHead}
+use Rattle.memory.specs.Layout.{headBytes, OnlyHead, OnlyRows}
 use Rattle.memory.specs.Heads.{flagsInForm, shipmentIn}
 use Rattle.memory.specs.Read.{rowsFrom, ordersAt, shipmentAt}
-use Rattle.book.specs.Place.{OnlyShipment, ActAt}
-use Rattle.book.proofs.Frames.{only-nothing, head-of-shipment}
+use Rattle.memory.proofs.Frames.{only-none, heads-kept, rows-kept, with-heads, with-rows}
+use Rattle.book.specs.Place.{ActAt}
 use Rattle.book.proofs.RowLaws.{rows-alike}
 
 module _ {m : List ℕ} {i k : ℕ} {does : Shipment → Outcome} where
@@ -20,7 +20,7 @@ module _ {m : List ℕ} {i k : ℕ} {does : Shipment → Outcome} where
   left-at left = record {
     answers = sym (ap (λ (outcome : Outcome). outcome .answer) left);
     leaves = sym (ap (λ (outcome : Outcome). outcome .shipment) left);
-    only = only-nothing;
+    only = only-none;
     orders = refl;
     flags = λ h. h;
     unmoved = λ still. refl;
@@ -35,21 +35,23 @@ module _ {m : List ℕ} {i k : ℕ} {does : Shipment → Outcome} where
         → (flagsInForm (headBytes m i) ≡ true → flagsInForm (headBytes m′ i) ≡ true) → ActAt m i k does answer m′
     head-changed only new done orders flags = record {
       answers = sym (ap (λ (outcome : Outcome). outcome .answer) done);
-      leaves = rw (orders, rows-alike m m′ k (ordersAt m i) (λ r from below. only .rows r), done) new;
-      only = head-of-shipment only;
+      leaves = rw (orders, rows-alike m m′ k (ordersAt m i) (λ r from below. rows-kept only r), done) new;
+      only = with-rows only;
       orders = orders;
       flags = flags;
       unmoved = λ still. absurd (not-both (changesNothing answer) still taken);
     }
 
-    pub rows-changed : {rows : List Row} → OnlyShipment i k (ordersAt m i) m m′ → headBytes m′ i ≡ headBytes m i → rowsFrom m′ k (ordersAt m i) ≡ rows
+    pub rows-changed : {rows : List Row} → i < mostShipments → OnlyRows k (ordersAt m i) m m′ → rowsFrom m′ k (ordersAt m i) ≡ rows
         → does (shipmentAt m i k) ≡ leave answer (withRows rows (shipmentAt m i k)) → ActAt m i k does answer m′
     unfolding shipmentIn
-    rows-changed only head new done = record {
-      answers = sym (ap (λ (outcome : Outcome). outcome .answer) done);
-      leaves = rw (head, new, done);
-      only = only;
-      orders = rw head;
-      flags = λ h. rw head h;
-      unmoved = λ still. absurd (not-both (changesNothing answer) still taken);
-    }
+    rows-changed few only new done =
+        let head = heads-kept only i few in
+        record {
+          answers = sym (ap (λ (outcome : Outcome). outcome .answer) done);
+          leaves = rw (head, new, done);
+          only = with-heads only;
+          orders = rw head;
+          flags = λ h. rw head h;
+          unmoved = λ still. absurd (not-both (changesNothing answer) still taken);
+        }

@@ -3,7 +3,6 @@
 use mathlib.Core.Path.{_≡_, refl}
 use mathlib.Core.Bool.{Bool, true}
 use mathlib.Core.List.{List}
-use mathlib.Core.Logic.{inl, inr}
 use Prim.Native.Nat.{ℕ, zero, suc, _+_, _≤_, _<_}
 use native.Mathlib.Omega.{arith}
 use borrow.Author.Tests.{eqb-true, eqb-false}
@@ -31,7 +30,7 @@ module _ {m m′ : List ℕ} {i k : ℕ} {does : Shipment → Outcome} {answer :
   behind-alike j s zero behind rows few = refl
   behind-alike j s (suc n) behind rows few =
       let head = act .only .other-heads j (omega arith) (λ same. omega arith) in
-      let first = shipment-alike m m′ j s head (λ r from below. act .only .other-rows r (inr (omega arith))) in
+      let first = shipment-alike m m′ j s head (λ r from below. act .only .other-rows r (λ among. omega (arith, among .1))) in
       let rest = behind-alike (suc j) (s + ordersAt m j) n (omega arith) (omega arith) (omega arith) in
       rw (first, head, rest)
 
@@ -72,5 +71,5 @@ module _ {is : List ℕ → Bool} {does : Shipment → Outcome} {call : Call} (s
       let by-head = seeks .by-head (headBytes m j) (rowsFrom m s (ordersAt m j)) in
       let place = within later in
       let head = act .only .other-heads j (omega arith) (λ same. omega arith) in
-      let first = shipment-alike m m′ j s head (λ r from below. act .only .other-rows r (inl (omega arith))) in
+      let first = shipment-alike m m′ j s head (λ r from below. act .only .other-rows r (λ among. omega (arith, among .0))) in
       rw (by-head, other, first, head, first-acted act later (omega arith))

@@ -2,7 +2,6 @@
 -- Assumes nothing.
 use mathlib.Core.Path.{_≡_, refl, sym, ap, _∙_}
 use mathlib.Core.List.{List, _∷_, map}
-use mathlib.Core.Logic.{inl}
 use Prim.Native.Nat.{ℕ, zero, suc, _+_, _-_, _≤_, _<_, _^_}
 use native.Mathlib.Numerals.{add-one}
 use native.Mathlib.Omega.{arith}
@@ -19,6 +18,7 @@ use Rattle.memory.specs.Rows.{rowOf}
 use Rattle.memory.specs.Read.{rowsFrom, shipmentAt, shipmentsFrom, bookIn}
 use Rattle.memory.specs.Enter.{OrderEntered, HeadEntered}
 use Rattle.memory.proofs.Parts.{number-heads, number-rows}
+use Rattle.memory.proofs.Frames.{heads-kept, rows-kept}
 use Rattle.book.specs.Place.{RowsStored}
 use Rattle.book.specs.Entering.{keptRow, Fits, ShipmentEntered}
 use Rattle.book.proofs.Storing.{one-more-stored}
@@ -69,20 +69,20 @@ module _ (m m₁ m₂ : List ℕ) (i k : ℕ) (name : Name) (fee n : ℕ) (kept 
 
   number-is : getD m′ 0 0 ≡ suc i
   number-is =
-      getD-set-same m₂ 0 (i + 1) 0 (omega (arith, fits .enough, head .only .as-long, stored .only i .as-long)) ∙ add-one i
+      getD-set-same m₂ 0 (i + 1) 0 (omega (arith, fits .enough, head .only .as-long, stored .only .as-long)) ∙ add-one i
 
   heads-before : (j : ℕ) → j < i → headBytes m′ j ≡ headBytes m j
   heads-before j before =
-      number-heads m₂ (i + 1) j ∙ head .only .other-heads j (λ same. omega arith) ∙ stored .heads j (omega (arith, fits .few))
+      number-heads m₂ (i + 1) j ∙ head .only .other-heads j (omega (arith, fits .few)) (λ same. omega arith) ∙ heads-kept (stored .only) j (omega (arith, fits .few))
 
   rows-before : (r : ℕ) → r < k → rowBytes m′ r ≡ rowBytes m r
-  rows-before r before = number-rows m₂ (i + 1) r ∙ head .only .rows r ∙ stored .only i .other-rows r (inl before)
+  rows-before r before = number-rows m₂ (i + 1) r ∙ rows-kept (head .only) r ∙ stored .only .other-rows r (λ among. omega (arith, among .0))
 
   rows-new : rowsFrom m′ k n ≡ map enteredRow (ordersIn kept 0 n)
   rows-new =
       listed-rows m′ kept k 0 n (λ j within.
       let place : k + j - k ≡ 0 + j = omega arith in
-      ap rowOf (number-rows m₂ (i + 1) (k + j) ∙ head .only .rows (k + j))
+      ap rowOf (number-rows m₂ (i + 1) (k + j) ∙ rows-kept (head .only) (k + j))
       ∙ stored .rows (k + j) (omega arith) (omega arith)
       ∙ ap (λ p. enteredRow (orderIn kept p)) place)
 
@@ -105,8 +105,8 @@ module _ (m m₁ m₂ : List ℕ) (i k : ℕ) (name : Name) (fee n : ℕ) (kept 
         (flags-alike m m′ 0 i (λ j from below. heads-before j (omega arith))
         (let here : 0 + i ≡ i = omega arith in rw (here, number-heads m₂ (i + 1) i) (head .flags)) (rw (← fits .last) at h));
     behind = λ j far.
-        getD-set-other m₂ 0 j (i + 1) 0 (omega arith) ∙ head .only .behind j far ∙ stored .only i .behind j far;
-    as-long = length-set m₂ 0 (i + 1) ∙ head .only .as-long ∙ stored .only i .as-long;
+        getD-set-other m₂ 0 j (i + 1) 0 (omega arith) ∙ head .only .behind j far ∙ stored .only .behind j far;
+    as-long = length-set m₂ 0 (i + 1) ∙ head .only .as-long ∙ stored .only .as-long;
   }
     where
       from-is : k ≡ rowsIn (shipmentsFrom m 0 0 i)

@@ -1,4 +1,3 @@
-pub mod Frames
 pub mod RowLaws
 pub mod RowWalks
 pub mod Storing

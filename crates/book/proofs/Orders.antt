@@ -24,13 +24,13 @@ use Rattle.memory.specs.Rows.{rowOf}
 use Rattle.memory.specs.Heads.{feeIn, stageIn, orderCountIn, shipmentIn}
 use Rattle.memory.specs.Read.{rowsFrom, ordersAt, shipmentAt, Sits}
 use Rattle.memory.specs.Stored.{codeOf, withCodeAt}
+use Rattle.memory.proofs.Frames.{row-among}
 use Rattle.memory.proofs.StateLaws.{state-is-read-back}
 use Rattle.memory.proofs.RowLaws.{code-stored}
 use Rattle.sound.proofs.ReadLaws.{rows-many}
 use Rattle.book.specs.Answers.{handlingOf}
 use Rattle.book.specs.Place.{ActAt}
 use Rattle.book.specs.declared.order.Handling.the-variants.{Handled}
-use Rattle.book.proofs.Frames.{row-of-shipment}
 use Rattle.book.proofs.RowLaws.{row-at, rows-set}
 use Rattle.memory.proofs.HeadFields.{orders-are, fee-is, paired-is}
 use Rattle.book.proofs.Acting.{refused-at, rows-changed}
@@ -110,9 +110,8 @@ module _ (m : List ℕ) (i k : ℕ) (deed : Deed) (number : ℕ) {head : List �
               let stored = code-stored m at (codeOf (becomes deed)) in
               let there : at < mostRows = omega (arith, sits .room, from-one, to-count) in
               let new = stored .row there (sits .enough) ∙ ap (λ state. withState state (rowOf (rowBytes m at))) (state-is-read-back (becomes deed) (becomes-in-range deed)) in
-              rows-changed (handled-taken deed fee (row .amount))
-              (row-of-shipment (omega arith) (omega (arith, from-one, to-count)) (stored .only there))
-              (stored .only there .heads i (sits .few))
+              rows-changed (handled-taken deed fee (row .amount)) (sits .few)
+              (row-among k (ordersAt m i) (omega arith) (omega (arith, from-one, to-count)) (stored .only there))
               (rows-set m _ k (ordersAt m i) (number - 1) (omega (arith, from-one, to-count)) (stored .only there .other-rows)
               ∙ ap (set (rowsFrom m k (ordersAt m i)) (number - 1)) (new ∙ ap (withState (becomes deed)) (sym order-is)))
               (asked-yes 19 _ _ _ (paired-test ∙ held)

@@ -3,7 +3,6 @@
 use mathlib.Core.Path.{_≡_, refl, sym, ap, _∙_}
 use mathlib.Core.Bool.{Bool, true, false, not, false≢true}
 use mathlib.Core.List.{List, [], _∷_, map}
-use mathlib.Core.Logic.{inr}
 use Prim.Native.Nat.{ℕ, zero, suc, _+_, _*_, _/_, _≤_, _<_}
 use native.Mathlib.Numerals.{add-one}
 use native.Mathlib.Omega.{arith}
@@ -95,7 +94,7 @@ module _ {route : Route} {money : Money} {fee k : ℕ} where
   pub one-more-cleared : {n : ℕ} {l m m′ : List ℕ} {before after : Taken} → Clearing route money fee k n l m before
       → RowCleared route money fee (k + n) before m m′ after → Clearing route money fee k (n + 1) l m′ after
   one-more-cleared {n} {l} {m} {m′} {before} {after} rest one =
-      let row-is = rest .returned .only 0 .other-rows (k + n) (inr (omega arith)) in
+      let row-is = rest .returned .only .other-rows (k + n) (λ among. omega (arith, among .1)) in
       let row = rowOf (rowBytes l (k + n)) in
       let waits = waitsOn route money row in
       let took : one .taken ≡ onlyIf waits (byMoney money 1 2)
@@ -265,7 +264,7 @@ module _ (m : List ℕ) (i k : ℕ) {head : List ℕ} (is-head : head ≡ headBy
             unfolding returnedBy shipmentIn
             returned-at some =
                 let all : RowsReturned route money k (ordersAt m i) m _ = rw (count-is is-count) at (cleared .returned) in
-                rows-changed refl (all .only i) (all .heads i (sits .few)) (rows-mapped m _ (afterReturn route money) k (ordersAt m i) (all .rows))
+                rows-changed refl (sits .few) (all .only) (rows-mapped m _ (afterReturn route money) k (ordersAt m i) (all .rows))
                 (asked-yes 19 _ _ _ (paired-test ∙ held)
                 ∙ asked-yes 22 _ _ _ (ap not (sym is-barred ∙ free))
                 ∙ asked-yes 23 _ _ _ (ap (ltb 0) sum-is ∙ lt-ltb 0 (groszeIn (found .sum)) some)

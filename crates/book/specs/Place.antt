@@ -2,18 +2,16 @@
 use mathlib.Core.Path.{_≡_}
 use mathlib.Core.Bool.{Bool, true, cond}
 use mathlib.Core.List.{List}
-use mathlib.Core.Logic.{_⊎_}
 use Prim.Native.Nat.{ℕ, zero, suc, _+_, _≤_, _<_}
-use lib.ListN.{length, getD}
 use Rattle.epe.specs.Ident.{sameIdent}
 use Rattle.epe.specs.declared.ident.Ident.{Ident}
 use Rattle.epe.specs.declared.name.Name.{Name}
-use Rattle.model.specs.Shipment.{mostShipments, Shipment}
+use Rattle.model.specs.Shipment.{Shipment}
 use Rattle.model.specs.Calls.{Call, Answer, Refused, changesNothing, Outcome}
 use Rattle.model.specs.Book.{Book, onFirst, sameName, step}
 use Rattle.model.specs.Sound.{shipmentSound}
 use Rattle.model.specs.declared.Row.{Row}
-use Rattle.memory.specs.Layout.{size, headBytes, rowBytes}
+use Rattle.memory.specs.Layout.{headBytes, rowBytes, OnlyRows, OnlyShipment}
 use Rattle.memory.specs.Rows.{rowOf}
 use Rattle.memory.specs.Heads.{nameIn, flagsInForm, shipmentIn}
 use Rattle.memory.specs.Read.{ordersAt, shipmentAt, shipmentsIn, soundIn}
@@ -36,19 +34,10 @@ placeFrom is m i k (suc n) = cond (is (headBytes m i)) (At i k) (placeFrom is m 
 unfoldable pub placeIn : (List ℕ → Bool) → List ℕ → Place
 placeIn is m = cond (soundIn m) (placeFrom is m 0 0 (shipmentsIn m)) Unsound
 
--- m′ is m but for head i and the n rows from the k-th on.
-pub record OnlyShipment (i k n : ℕ) (m m′ : List ℕ) : Type 0 where
-  pub shipments : getD m′ 0 0 ≡ getD m 0 0
-  pub other-heads : (j : ℕ) → j < mostShipments → (j ≡ i → ⊥) → headBytes m′ j ≡ headBytes m j
-  pub other-rows : (r : ℕ) → (r < k) ⊎ (k + n ≤ r) → rowBytes m′ r ≡ rowBytes m r
-  pub behind : (j : ℕ) → size ≤ j → getD m′ j 0 ≡ getD m j 0
-  pub as-long : length m′ ≡ length m
-
 -- Each of n rows from the k-th on is what is given for it, and nothing else moves.
 pub record RowsStored (given : ℕ → Row) (k n : ℕ) (m m′ : List ℕ) : Type 0 where
   pub rows : (r : ℕ) → k ≤ r → r < k + n → rowOf (rowBytes m′ r) ≡ given r
-  pub heads : (i : ℕ) → i < mostShipments → headBytes m′ i ≡ headBytes m i
-  pub only : (i : ℕ) → OnlyShipment i k n m m′
+  pub only : OnlyRows k n m m′
 
 -- What the model does to a shipment is done to the one at a place: its answer, its fields, and nothing else.
 pub record ActAt (m : List ℕ) (i k : ℕ) (does : Shipment → Outcome) (answer : Answer) (m′ : List ℕ) : Type 0 where

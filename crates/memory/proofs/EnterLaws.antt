@@ -32,7 +32,8 @@ use Rattle.memory.specs.Heads.{feeIn, stageOf, flagsInForm, orderCountIn
 use Rattle.memory.specs.Stored.{codeOf, withCodeAt}
 use Rattle.memory.specs.Enter.{OrderEntered, HeadEntered, fieldsOf, HeadStored}
 use Rattle.memory.proofs.Numbers.{stored-is-read}
-use Rattle.memory.proofs.Parts.{part-long, head-byte, head-byte-only, only-head-none, only-head-then, only-row-then, row-number, row-number-only}
+use Rattle.memory.proofs.Parts.{part-long, head-byte, head-byte-only, row-number, row-number-only}
+use Rattle.memory.proofs.Frames.{only-none, only-again}
 use Rattle.memory.proofs.StateLaws.{state-is-read-back}
 use Rattle.memory.proofs.RowLaws.{code-stored}
 
@@ -65,7 +66,7 @@ module _ (order : Order) (k : ℕ) (m : List ℕ) (there : k < mostRows) (enough
       record {
         row = code .row there (omega arith) ∙ (λ i. record { amount = record { 0 = amount-there fits i }; state = read i });
         only =
-            only-row-then k m amount-stored _ (rw (add-zero (rowAt k)) at (row-number-only 4 m k 0 (order .amount .0) (omega arith) there))
+            only-again (rw (add-zero (rowAt k)) at (row-number-only 4 m k 0 (order .amount .0) (omega arith) there))
             (code .only there);
       }
 
@@ -80,7 +81,7 @@ pub record Storing (head : List ℕ) (j i : ℕ) (m m′ : List ℕ) : Type 0 wh
 
 module _ (head : List ℕ) (i : ℕ) (m : List ℕ) where
   pub storing-none : Storing head 0 i m m
-  storing-none = record { within = omega arith; bytes = refl; only = only-head-none i m }
+  storing-none = record { within = omega arith; bytes = refl; only = only-none }
 
   module _ (whole : IsHead head) (few : i < mostShipments) (enough : size ≤ length m) where
     as-long-as : IsHead (headBytes m i)
@@ -94,7 +95,7 @@ module _ (head : List ℕ) (i : ℕ) (m : List ℕ) where
           head-byte m′ i j (getD head j 0) more
           ∙ ap (λ bytes. set bytes j (getD head j 0)) (so-far .bytes)
           ∙ one-more head (headBytes m i) j (omega arith) (omega (arith, as-long-as));
-      only = only-head-then i m m′ _ (so-far .only) (head-byte-only m′ i j (getD head j 0) more few);
+      only = only-again (so-far .only) (head-byte-only m′ i j (getD head j 0) more few);
     }
 
     pub head-stored : (m′ : List ℕ) → Storing head headSize i m m′ → HeadStored head i m m′

@@ -1,4 +1,5 @@
 pub mod Numbers
+pub mod Frames
 pub mod Parts
 pub mod StateLaws
 pub mod RowLaws

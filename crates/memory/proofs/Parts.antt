@@ -12,7 +12,8 @@ use lib.Seq.{length-take-le, drop-set-lt, drop-set-add, take-set-le, take-set-lt
 use Rattle.text.proofs.Branches.{either-way}
 use Rattle.model.specs.Shipment.{mostShipments, mostRows}
 use Rattle.memory.specs.Number.{withNumber}
-use Rattle.memory.specs.Layout.{headSize, rowSize, headAt, rowAt, headBytes, rowBytes, OnlyRow, OnlyHead}
+use Rattle.memory.specs.Layout.{headSize, rowSize, headAt, rowAt, headBytes, rowBytes, Only, OnlyHead, OnlyRow}
+use Rattle.memory.proofs.Frames.{only-none, only-again}
 
 -- any part of a list
 module _ (m : List ℕ) (at n : ℕ) where
@@ -48,16 +49,15 @@ number-inside (suc width) m at n q x within =
     ∙ ap (λ part. withNumber width part (suc q) (x / 256)) (inside m at n q (x % 256) (omega arith))
 
 -- and what each byte stored in a part leaves alone, a number stored there does
-module _ (Only : List ℕ → List ℕ → Type 0) (none : (m : List ℕ) → Only m m) (then : (l m n : List ℕ) → Only l m → Only m n → Only l n)
-    (at n : ℕ) (byte : (m : List ℕ) (q v : ℕ) → q < n → Only m (set m (at + q) v)) where
-  number-only : (width : ℕ) (m : List ℕ) (q x : ℕ) → q + width ≤ n → Only m (withNumber width m (at + q) x)
+module _ (heads rows : ℕ → Type 0) (at n : ℕ) (byte : (m : List ℕ) (q v : ℕ) → q < n → Only heads rows m (set m (at + q) v)) where
+  number-only : (width : ℕ) (m : List ℕ) (q x : ℕ) → q + width ≤ n → Only heads rows m (withNumber width m (at + q) x)
   unfolding withNumber
-  number-only zero m q x within = none m
+  number-only zero m q x within = only-none
   number-only (suc width) m q x within =
       let first = set m (at + q) (x % 256) in
       let next : at + suc q ≡ suc (at + q) = omega arith in
-      then m first _ (byte m q (x % 256) (omega arith))
-      (subst (λ p. Only first (withNumber width first p (x / 256))) next (number-only width first (suc q) (x / 256) (omega arith)))
+      only-again (byte m q (x % 256) (omega arith))
+      (subst (λ p. Only heads rows first (withNumber width first p (x / 256))) next (number-only width first (suc q) (x / 256) (omega arith)))
 
 -- byte q of row k
 module _ (m : List ℕ) (k q v : ℕ) (within : q < rowSize) where
@@ -79,7 +79,7 @@ module _ (m : List ℕ) (k q v : ℕ) (within : q < rowSize) where
   pub row-byte-only : k < mostRows → OnlyRow k m (set m (rowAt k + q) v)
   row-byte-only there = record {
     shipments = getD-set-other m (rowAt k + q) 0 v 0 (omega arith);
-    heads = any-head;
+    other-heads = λ i few apart. any-head i few;
     other-rows = other-row;
     behind = λ j far. getD-set-other m (rowAt k + q) j v 0 (omega arith);
     as-long = length-set m (rowAt k + q) v;
@@ -105,31 +105,13 @@ module _ (m : List ℕ) (i q v : ℕ) (within : q < headSize) where
   pub head-byte-only : i < mostShipments → OnlyHead i m (set m (headAt i + q) v)
   head-byte-only few = record {
     shipments = getD-set-other m (headAt i + q) 0 v 0 (omega arith);
-    other-heads = other-head;
-    rows = any-row few;
+    other-heads = λ j below apart. other-head j apart;
+    other-rows = λ k apart. any-row few k;
     behind = λ j far. getD-set-other m (headAt i + q) j v 0 (omega arith);
     as-long = length-set m (headAt i + q) v;
   }
 
--- one change of a head after another, and a number
-pub only-head-none : (i : ℕ) (m : List ℕ) → OnlyHead i m m
-only-head-none i m = record {
-  shipments = refl;
-  other-heads = λ j apart. refl;
-  rows = λ k. refl;
-  behind = λ j far. refl;
-  as-long = refl;
-}
-
-pub only-head-then : (i : ℕ) (l m n : List ℕ) → OnlyHead i l m → OnlyHead i m n → OnlyHead i l n
-only-head-then i l m n first then = record {
-  shipments = then .shipments ∙ first .shipments;
-  other-heads = λ j apart. then .other-heads j apart ∙ first .other-heads j apart;
-  rows = λ k. then .rows k ∙ first .rows k;
-  behind = λ j far. then .behind j far ∙ first .behind j far;
-  as-long = then .as-long ∙ first .as-long;
-}
-
+-- a number in a head
 pub head-number : (width : ℕ) (m : List ℕ) (i q n : ℕ) → q + width ≤ headSize
     → headBytes (withNumber width m (headAt i + q) n) i ≡ withNumber width (headBytes m i) q n
 unfolding headBytes
@@ -137,27 +119,9 @@ head-number width m i q n within = number-inside width m (headAt i) headSize q n
 
 pub head-number-only : (width : ℕ) (m : List ℕ) (i q n : ℕ) → q + width ≤ headSize → i < mostShipments → OnlyHead i m (withNumber width m (headAt i + q) n)
 head-number-only width m i q n within few =
-    number-only (OnlyHead i) (only-head-none i) (only-head-then i) (headAt i) headSize (λ l p v h. head-byte-only l i p v h few) width m q n within
+    number-only (λ j. j ≡ i) (λ r. ⊥) (headAt i) headSize (λ l p v h. head-byte-only l i p v h few) width m q n within
 
--- one change of a row after another, and a number
-only-row-none : (k : ℕ) (m : List ℕ) → OnlyRow k m m
-only-row-none k m = record {
-  shipments = refl;
-  heads = λ i few. refl;
-  other-rows = λ j apart. refl;
-  behind = λ j far. refl;
-  as-long = refl;
-}
-
-pub only-row-then : (k : ℕ) (l m n : List ℕ) → OnlyRow k l m → OnlyRow k m n → OnlyRow k l n
-only-row-then k l m n first then = record {
-  shipments = then .shipments ∙ first .shipments;
-  heads = λ i few. then .heads i few ∙ first .heads i few;
-  other-rows = λ j apart. then .other-rows j apart ∙ first .other-rows j apart;
-  behind = λ j far. then .behind j far ∙ first .behind j far;
-  as-long = then .as-long ∙ first .as-long;
-}
-
+-- a number in a row
 pub row-number : (width : ℕ) (m : List ℕ) (k q n : ℕ) → q + width ≤ rowSize
     → rowBytes (withNumber width m (rowAt k + q) n) k ≡ withNumber width (rowBytes m k) q n
 unfolding rowBytes
@@ -165,7 +129,7 @@ row-number width m k q n within = number-inside width m (rowAt k) rowSize q n wi
 
 pub row-number-only : (width : ℕ) (m : List ℕ) (k q n : ℕ) → q + width ≤ rowSize → k < mostRows → OnlyRow k m (withNumber width m (rowAt k + q) n)
 row-number-only width m k q n within there =
-    number-only (OnlyRow k) (only-row-none k) (only-row-then k) (rowAt k) rowSize (λ l p v h. row-byte-only l k p v h there) width m q n within
+    number-only (λ j. ⊥) (λ r. r ≡ k) (rowAt k) rowSize (λ l p v h. row-byte-only l k p v h there) width m q n within
 
 -- the number of shipments
 module _ (m : List ℕ) (v : ℕ) where

@@ -9,7 +9,7 @@ use Rattle.epe.specs.declared.name.Name.{Name}
 use Rattle.epe.specs.declared.record.Order.{Order}
 use Rattle.model.specs.Book.{enteredRow, newShipment}
 use Rattle.model.specs.declared.Row.{Row}
-use Rattle.memory.specs.Layout.{headBytes, rowBytes, OnlyRow, OnlyHead}
+use Rattle.memory.specs.Layout.{headBytes, rowBytes, OnlyHead, OnlyRow}
 use Rattle.memory.specs.Rows.{rowOf}
 use Rattle.memory.specs.Heads.{flagsInForm, orderCountIn, shipmentIn}
 

@@ -37,18 +37,24 @@ IsHead head = length head ≡ headSize
 abbrev pub IsRow : List ℕ → Type 0
 IsRow row = length row ≡ rowSize
 
--- m′ is m but for row k: the number of shipments, every head, every other row, what lies behind the book and the length are as they were.
-pub record OnlyRow (k : ℕ) (m m′ : List ℕ) : Type 0 where
+-- m′ is m but for some heads and some rows: the number of shipments, every other head and every other row, what lies behind the book and the length
+-- are as they were.
+pub record Only (heads rows : ℕ → Type 0) (m m′ : List ℕ) : Type 0 where
   pub shipments : getD m′ 0 0 ≡ getD m 0 0
-  pub heads : (i : ℕ) → i < mostShipments → headBytes m′ i ≡ headBytes m i
-  pub other-rows : (j : ℕ) → (j ≡ k → ⊥) → rowBytes m′ j ≡ rowBytes m j
+  pub other-heads : (i : ℕ) → i < mostShipments → (heads i → ⊥) → headBytes m′ i ≡ headBytes m i
+  pub other-rows : (k : ℕ) → (rows k → ⊥) → rowBytes m′ k ≡ rowBytes m k
   pub behind : (j : ℕ) → size ≤ j → getD m′ j 0 ≡ getD m j 0
   pub as-long : length m′ ≡ length m
 
--- m′ is m but for head i.
-pub record OnlyHead (i : ℕ) (m m′ : List ℕ) : Type 0 where
-  pub shipments : getD m′ 0 0 ≡ getD m 0 0
-  pub other-heads : (j : ℕ) → (j ≡ i → ⊥) → headBytes m′ j ≡ headBytes m j
-  pub rows : (k : ℕ) → rowBytes m′ k ≡ rowBytes m k
-  pub behind : (j : ℕ) → size ≤ j → getD m′ j 0 ≡ getD m j 0
-  pub as-long : length m′ ≡ length m
+-- But for head i; for row k; for the n rows from the k-th on; for head i and these rows.
+abbrev pub OnlyHead : ℕ → List ℕ → List ℕ → Type 0
+OnlyHead i m m′ = Only (λ j. j ≡ i) (λ r. ⊥) m m′
+
+abbrev pub OnlyRow : ℕ → List ℕ → List ℕ → Type 0
+OnlyRow k m m′ = Only (λ j. ⊥) (λ r. r ≡ k) m m′
+
+abbrev pub OnlyRows : ℕ → ℕ → List ℕ → List ℕ → Type 0
+OnlyRows k n m m′ = Only (λ j. ⊥) (λ r. (k ≤ r) × (r < k + n)) m m′
+
+abbrev pub OnlyShipment : ℕ → ℕ → ℕ → List ℕ → List ℕ → Type 0
+OnlyShipment i k n m m′ = Only (λ j. j ≡ i) (λ r. (k ≤ r) × (r < k + n)) m m′

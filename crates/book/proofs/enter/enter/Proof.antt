@@ -12,7 +12,7 @@ enter-head-requires : tie.Need-enter-head-requires
 enter-head-requires c κs =
     let rows = c .before .before .before in
     let fits = rows .before .before .before .before .pre in
-    (fits .few, rw (rows .enter-orders .ensures .only 0 .as-long) (fits .enough), fits .in-form, fits .fee-fits, omega (arith, fits .room))
+    (fits .few, rw (rows .enter-orders .ensures .only .as-long) (fits .enough), fits .in-form, fits .fee-fits, omega (arith, fits .room))
 
 add-store-shipments : tie.Need-add-store-shipments
 add-store-shipments c = search needs
@@ -22,7 +22,7 @@ store-shipments-requires c κs =
     let head = c .before .before .before in
     let rows = head .before .before .before .before in
     let fits = rows .before .before .before .before .pre in
-    (omega (arith, fits .few), rw (head .enter-head .ensures .only .as-long, rows .enter-orders .ensures .only 0 .as-long) (fits .enough))
+    (omega (arith, fits .few), rw (head .enter-head .ensures .only .as-long, rows .enter-orders .ensures .only .as-long) (fits .enough))
 
 same-length : tie.Need-same-length
 same-length c = search needs

@@ -31,7 +31,7 @@ enter-order-requires c κs =
     let loop = turn .before .loop in
     let start = turn .before .before .before .before in
     let range = kept-in-range (start .args .kept .now) (start .args .n) (loop .done) (start .pre .2) (turn .loop-test .taken) (c .order-in .ensures) in
-    (omega (arith, turn .loop-test .taken, start .pre .0), rw (loop .inv .0 .only 0 .as-long) (start .pre .1), range .0, range .1)
+    (omega (arith, turn .loop-test .taken, start .pre .0), rw (loop .inv .0 .only .as-long) (start .pre .1), range .0, range .1)
 
 add-done : tie.Need-add-done Inv-loop μ-loop
 add-done c = search needs
@@ -49,7 +49,7 @@ loop-again c =
     (one-more-entered (start .args .kept .now) (loop .inv .0) (order .order-in .ensures) (stored .enter-order .ensures), omega (arith, turn .loop-test .taken))
 
 same-length : tie.Need-same-length Inv-loop μ-loop
-same-length c = c .before .loop .inv .0 .only 0 .as-long
+same-length c = c .before .loop .inv .0 .only .as-long
 
 returns : tie.Need-returns Inv-loop μ-loop
 returns c =

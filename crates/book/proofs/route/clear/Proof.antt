@@ -35,7 +35,7 @@ clear-row-requires c κs =
     let start = turn .before .before .before in
     let is = turn .before .wait-table .ensures in (
       search needs,
-      rw (turn .loop .inv .0 (start .args .route) is .returned .only 0 .as-long) (start .pre .1),
+      rw (turn .loop .inv .0 (start .args .route) is .returned .only .as-long) (start .pre .1),
       start .pre .2,
       record { route = start .args .route; money = start .args .money; is = is },
       omega arith,
@@ -82,7 +82,7 @@ div-count c = search needs
 same-length : tie.Need-same-length Inv-loop μ-loop
 same-length c =
     let turn = c .before .before .before .before .before in
-    turn .loop .inv .0 (turn .before .before .before .args .route) (turn .before .wait-table .ensures) .returned .only 0 .as-long
+    turn .loop .inv .0 (turn .before .before .before .args .route) (turn .before .wait-table .ensures) .returned .only .as-long
 
 returns : tie.Need-returns Inv-loop μ-loop
 returns c =
