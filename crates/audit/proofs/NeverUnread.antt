@@ -91,7 +91,7 @@ unfolding step transferredIn titleOf titleQuestions
 step-other book (Intake profile name file) not-intake = cc
 step-other book (Transfer title amount) not-intake =
     let accepted = first-answer (transferred (titleOf title .money) amount) (λ (answer : Answer). isOther 10 answer ≡ true) refl
-    (transferred-other (titleOf title .money) amount) (λ (s : Shipment). sameName (titleOf title .name) (s .name)) book in
+    (transferred-other (titleOf title .money) amount) (λ (s : Shipment). sameName (titleOf title .name) (s .agreed .name)) book in
     asked-other 10 stepAnswer (titleQuestions title ++ ((isTransfer amount elseNo 12) ∷ [])) (refusingIn book) _ (λ number. refl) refl accepted
 step-other book (On ident act) not-intake =
     first-answer (acted act) (λ (answer : Answer). isOther 10 answer ≡ true) refl (acted-other act) (isCalled ident) book

@@ -34,23 +34,23 @@ use Rattle.audit.specs.SheetAsAnswered.{sums, RowAsAnswered, SheetAsAnsw
 use Rattle.audit.proofs.Listing.{listed}
 
 -- a shipment of the book behind the first is found as before, since the first has another identifier
-still-found : (s t : Shipment) (book : Book) → isUnknown (s .name .ident) book ≡ true → find (t .name .ident) book ≡ some t
-    → find (t .name .ident) (s ∷ book) ≡ some t
+still-found : (s t : Shipment) (book : Book) → isUnknown (s .agreed .name .ident) book ≡ true → find (t .agreed .name .ident) book ≡ some t
+    → find (t .agreed .name .ident) (s ∷ book) ≡ some t
 still-found s t book unknown here =
-    let ident = t .name .ident in
-    let nowhere = unknown-none (s .name .ident) book unknown in
-    let equal = same-is-equal ident (s .name .ident) .0 in
+    let ident = t .agreed .name .ident in
+    let nowhere = unknown-none (s .agreed .name .ident) book unknown in
+    let equal = same-is-equal ident (s .agreed .name .ident) .0 in
     either-way (isCalled ident s)
     (λ same. let alike = ap (λ (i : Ident). find i book) (equal same) in cc)
     (λ other. passed ident s book other ∙ here)
 
 -- what holds of each shipment that its own identifier finds holds of each row of the sheet
 each-row : (P : SheetRow → Type 0) (rest : List SheetRow) (outside : SheetRow) (book : Book) → shipmentsSound book ≡ true
-    → ((s : Shipment) → find (s .name .ident) book ≡ some s → P (rowFor s))
+    → ((s : Shipment) → find (s .agreed .name .ident) book ≡ some s → P (rowFor s))
     → (i : ℕ) → i < length book → P (getD (map rowFor book ++ rest) i outside)
 unfolding shipmentsSound
 each-row P rest outside [] h holds i inside = absurd (omega arith)
-each-row P rest outside (s ∷ book) h holds zero inside = holds s (found (s .name .ident) s book (same-is-equal (s .name .ident) (s .name .ident) .1 refl))
+each-row P rest outside (s ∷ book) h holds zero inside = holds s (found (s .agreed .name .ident) s book (same-is-equal (s .agreed .name .ident) (s .agreed .name .ident) .1 refl))
 each-row P rest outside (s ∷ book) h holds (suc i) inside =
     each-row P rest outside book (search halves) (λ t here. holds t (still-found s t book (search halves) here)) i (omega arith)
 
@@ -84,11 +84,11 @@ unfolding rowFor
 sums-of K s = refl
 sums-of O s = refl
 
-row-as-answered : (calls : List Call) (p : ℕ) (money : Money) (s : Shipment) → find (s .name .ident) (bookAt calls p) ≡ some s
+row-as-answered : (calls : List Call) (p : ℕ) (money : Money) (s : Shipment) → find (s .agreed .name .ident) (bookAt calls p) ≡ some s
     → RowAsAnswered money (rowFor s) (bookAt calls p) (eventsBetween calls 0 p)
 unfolding rowFor
 row-as-answered calls p money s here =
-    let ident = s .name .ident in
+    let ident = s .agreed .name .ident in
     let four = sums-of money s in
     let taken = rw here at (accepted-as-answered calls p ident money) in
     let out = rw here at (left-as-answered calls p ident money) in

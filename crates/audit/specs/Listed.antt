@@ -10,12 +10,12 @@ use Prim.Native.Nat.{ℕ, zero, suc, _+_, _≤_}
 use lib.ListN.{take, drop}
 use Rattle.money.specs.declared.Money.{Money}
 use Rattle.epe.specs.declared.ident.Ident.{Ident}
-use Rattle.model.specs.Shipment.{onlyIf, sumOver, worth}
+use Rattle.model.specs.Shipment.{onlyIf, sumOver}
 use Rattle.model.specs.Calls.{Call, Intake, Transfer, On, Return, Answer, Refused, isRefusal, waiting}
 use Rattle.model.specs.Book.{Book, find}
 use Rattle.model.specs.Moved.{moved}
 use Rattle.model.specs.Demand.{Event, isFor, acceptedFor, leftFor, events, bookAt, ofShipment, heldIn, freeIn, Covered}
-use Rattle.model.specs.Demand.{orderByIndex, ordersOf, feeOf, below}
+use Rattle.model.specs.Demand.{orderByIndex, ordersOf, worthOfOrder, below}
 use Rattle.model.specs.declared.Route.{Route}
 use Rattle.memory.specs.Read.{readBook}
 use Rattle.book.specs.Does.{Does}
@@ -75,7 +75,7 @@ pub record AtMade (before : List ℕ) (made : Made) : Type 0 where
   pub entire : (ident : Ident) (money : Money) → isFor ident (made .call) ≡ true
       → moved (made .call) (made .answer) .goesOut money
       ≡ below (ordersOf (find ident (bookInBytes before)))
-      (λ j. onlyIf (leavesBytes money ident j before made) (worth money (feeOf (find ident (bookInBytes before))) (orderByIndex j (find ident (bookInBytes before)))))
+      (λ j. onlyIf (leavesBytes money ident j before made) (worthOfOrder money j (find ident (bookInBytes before))))
       + moved (made .call) (made .answer) .surplus money
   -- A return's count, and ".. nothing of that money waits there after."
   pub counted : (ident : Ident) (route : Route) (money : Money) → made .call ≡ On ident (Return route money)

@@ -55,7 +55,7 @@ module _ (m : List ℕ) (i k : ℕ) (sits : Sits m i k) {head : List ℕ} (is-he
 
   fees-are : n * feeIn head ≡ need O s
   unfolding need shipmentIn
-  fees-are = ap (λ fee. n * fee) (fee-is m i k is-head) ∙ ap (λ count. count * s .fee) (count-is ∙ sym (rows-many m k (ordersAt m i)))
+  fees-are = ap (λ fee. n * fee) (fee-is m i k is-head) ∙ ap (λ count. count * s .agreed .fee) (count-is ∙ sym (rows-many m k (ordersAt m i)))
 
   pub need-in-fees : {fees : Fee} → fees ≡ fee (n * feeIn head) → fees .0 ≡ need O s
   need-in-fees are = ap (λ (all : Fee). all .0) are ∙ fees-are

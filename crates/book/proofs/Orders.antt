@@ -47,11 +47,11 @@ handled-taken Pay fee amount = refl
 handled-taken MarkUndelivered fee amount = refl
 handled-taken Withdraw fee amount = refl
 
-handled-says : (deed : Deed) (fee : Fee) (n : ℕ) (row : Row) → fee .0 ≡ n → says deed n row ≡ handlingOf deed (Handled fee (row .amount))
-handled-says Post fee n row fee-is = ap FeeEarned (sym fee-is)
-handled-says Pay fee n row fee-is = refl
-handled-says MarkUndelivered fee n row fee-is = refl
-handled-says Withdraw fee n row fee-is = refl
+handled-says : (deed : Deed) (fee : Fee) (s : Shipment) (row : Row) → fee .0 ≡ s .agreed .fee → says deed s row ≡ handlingOf deed (Handled fee (row .amount))
+handled-says Post fee s row fee-is = ap FeeEarned (sym fee-is)
+handled-says Pay fee s row fee-is = refl
+handled-says MarkUndelivered fee s row fee-is = refl
+handled-says Withdraw fee s row fee-is = refl
 
 module _ (m : List ℕ) (i k : ℕ) (deed : Deed) (number : ℕ) {head : List ℕ} (is-head : head ≡ headBytes m i) where
   abbrev s : Shipment
@@ -119,4 +119,4 @@ module _ (m : List ℕ) (i k : ℕ) (deed : Deed) (number : ℕ) {head : List �
               ∙ asked-yes 21 _ _ _ (fitting-is ∙ fit)
               ∙ asked-none _ _
               ∙ ap (λ answer. leave answer (withRows (set (s .rows) (number - 1) (withState (becomes deed) (orderAt number s))) s))
-              (handled-says deed fee (s .fee) (orderAt number s) (is-fee ∙ fee-is m i k is-head) ∙ ap (λ (order : Row). handlingOf deed (Handled fee (order .amount))) (order-is ∙ sym row-is)))
+              (handled-says deed fee s (orderAt number s) (is-fee ∙ fee-is m i k is-head) ∙ ap (λ (order : Row). handlingOf deed (Handled fee (order .amount))) (order-is ∙ sym row-is)))

@@ -10,6 +10,7 @@ use borrow.Author.Tests.{lt-ltb, leb-true, eqb-true, eqb-false}
 use lib.Dec.{ltb, eqb}
 use lib.ListN.{length}
 use Rattle.money.specs.Money.{WithinSum, sumOf, groszeIn}
+use Rattle.money.specs.declared.Fee.{Fee}
 use Rattle.money.specs.declared.Money.{Money}
 use Rattle.money.specs.declared.Money.the-variants.{K, O}
 use Rattle.money.specs.declared.Sum.{Sum}
@@ -28,7 +29,7 @@ use Rattle.memory.specs.Rows.{rowOf}
 use Rattle.memory.specs.Heads.{feeIn, stageIn, orderCountIn, shipmentIn}
 use Rattle.memory.specs.Read.{rowsFrom, ordersAt, shipmentAt, Sits}
 use Rattle.book.specs.Place.{ActAt}
-use Rattle.book.specs.Waits.{worthWaiting, ordersWaiting, RowCleared, RowsReturned, Cleared}
+use Rattle.book.specs.Waits.{IsFeeOf, RowCleared, RowsReturned, Cleared}
 use Rattle.book.specs.declared.route.Taken.{Taken}
 use Rattle.book.specs.declared.route.Waits.{Waits}
 use Rattle.book.proofs.Storing.{none-stored, one-more-stored}
@@ -77,22 +78,28 @@ module _ (m : List ℕ) (f : Row → ℕ) where
   sum-more k n = rw add-one (sym (sum-then k n))
 
 -- rows returned one after the other
-pub record Clearing (route : Route) (money : Money) (fee k n : ℕ) (m m′ : List ℕ) (taken : Taken) : Type 0 where
-  pub added : taken .worth ≡ worthWaiting route money fee (rowsFrom m k n) * byMoney money 1 2
+abbrev worthWaiting : Route → Money → Shipment → List Row → ℕ
+worthWaiting route money s rows = sumOver (λ (row : Row). onlyIf (waitsOn route money row) (worth money s row)) rows
+
+abbrev ordersWaiting : Route → Money → List Row → ℕ
+ordersWaiting route money rows = sumOver (λ (row : Row). onlyIf (waitsOn route money row) 1) rows
+
+pub record Clearing (route : Route) (money : Money) (s : Shipment) (k n : ℕ) (m m′ : List ℕ) (taken : Taken) : Type 0 where
+  pub added : taken .worth ≡ worthWaiting route money s (rowsFrom m k n) * byMoney money 1 2
   pub counted : taken .count ≡ ordersWaiting route money (rowsFrom m k n) * byMoney money 1 2
   pub returned : RowsReturned route money k n m m′
   pub still : taken .count ≡ 0 → m′ ≡ m
 
-module _ {route : Route} {money : Money} {fee k : ℕ} where
-  pub none-cleared : {m : List ℕ} → Clearing route money fee k 0 m m (record { worth = 0; count = 0 })
+module _ {route : Route} {money : Money} {s : Shipment} {k : ℕ} where
+  pub none-cleared : {m : List ℕ} → Clearing route money s k 0 m m (record { worth = 0; count = 0 })
   unfolding rowsFrom
   none-cleared = record { added = none; counted = none; returned = none-stored; still = λ h. refl }
     where
       none : 0 ≡ 0 * byMoney money 1 2
       none = omega arith
 
-  pub one-more-cleared : {n : ℕ} {l m m′ : List ℕ} {before after : Taken} → Clearing route money fee k n l m before
-      → RowCleared route money fee (k + n) before m m′ after → Clearing route money fee k (n + 1) l m′ after
+  pub one-more-cleared : {n : ℕ} {l m m′ : List ℕ} {before after : Taken} → Clearing route money s k n l m before
+      → RowCleared route money s (k + n) before m m′ after → Clearing route money s k (n + 1) l m′ after
   one-more-cleared {n} {l} {m} {m′} {before} {after} rest one =
       let row-is = rest .returned .only .other-rows (k + n) (λ among. omega (arith, among .1)) in
       let row = rowOf (rowBytes l (k + n)) in
@@ -101,11 +108,11 @@ module _ {route : Route} {money : Money} {fee k : ℕ} where
       = one .row .took ∙ ap (λ bytes. onlyIf (waitsOn route money (rowOf bytes)) (byMoney money 1 2)) row-is in
       record {
         added = one .added
-            ∙ ap (λ bytes. before .worth + worth money fee (rowOf bytes) * one .taken) row-is
-            ∙ ap (λ n. before .worth + worth money fee row * n) took
-            ∙ ap (λ n. n + worth money fee row * onlyIf waits (byMoney money 1 2)) (rest .added)
-            ∙ one-more-worth money waits _ (worth money fee row)
-            ∙ ap (λ n. n * byMoney money 1 2) (sum-more l (λ row. onlyIf (waitsOn route money row) (worth money fee row)) k n);
+            ∙ ap (λ bytes. before .worth + worth money s (rowOf bytes) * one .taken) row-is
+            ∙ ap (λ n. before .worth + worth money s row * n) took
+            ∙ ap (λ n. n + worth money s row * onlyIf waits (byMoney money 1 2)) (rest .added)
+            ∙ one-more-worth money waits _ (worth money s row)
+            ∙ ap (λ n. n * byMoney money 1 2) (sum-more l (λ row. onlyIf (waitsOn route money row) (worth money s row)) k n);
         counted = one .counted
             ∙ ap (λ n. before .count + n) took
             ∙ ap (λ n. n + onlyIf waits (byMoney money 1 2)) (rest .counted)
@@ -118,71 +125,75 @@ module _ {route : Route} {money : Money} {fee k : ℕ} where
             one .row .still (omega arith) ∙ rest .still (omega arith);
       }
 
-  module _ {n wait : ℕ} {m m′ : List ℕ} {taken : Taken} (all : Clearing route money fee k n m m′ taken) (wait-is : wait ≡ byMoney money 1 2) where
-    once : (x y : ℕ) → x ≡ y * byMoney money 1 2 → x / wait ≡ y
-    once x y is = ap (λ w. x / w) wait-is ∙ ap (λ x. x / byMoney money 1 2) is ∙ counted-once money y
+-- all rows of the shipment at a place, and what they come to once each wait counts as one
+module _ {route : Route} {money : Money} (m : List ℕ) (i k : ℕ) {wait : ℕ} {m′ : List ℕ} {taken : Taken}
+    (all : Clearing route money (shipmentAt m i k) k (ordersAt m i) m m′ taken) (wait-is : wait ≡ byMoney money 1 2) where
+  once : (x y : ℕ) → x ≡ y * byMoney money 1 2 → x / wait ≡ y
+  once x y is = ap (λ w. x / w) wait-is ∙ ap (λ x. x / byMoney money 1 2) is ∙ counted-once money y
 
-    pub worth-is : taken .worth / wait ≡ worthWaiting route money fee (rowsFrom m k n)
-    worth-is = once (taken .worth) _ (all .added)
+  pub worth-is : taken .worth / wait ≡ waiting route money (shipmentAt m i k)
+  unfolding waiting shipmentIn
+  worth-is = once (taken .worth) _ (all .added)
 
-    count-is-once : taken .count / wait ≡ ordersWaiting route money (rowsFrom m k n)
-    count-is-once = once (taken .count) _ (all .counted)
+  count-is-once : taken .count / wait ≡ waitingOrders route money (shipmentAt m i k)
+  unfolding waitingOrders shipmentIn
+  count-is-once = once (taken .count) _ (all .counted)
 
-    nothing : (n : ℕ) → 0 * n ≡ 0
-    nothing n = omega arith
+  nothing : (n : ℕ) → 0 * n ≡ 0
+  nothing n = omega arith
 
-    pub all-cleared : {sum : Sum} → sum ≡ sumOf money (taken .worth / wait)
-        → Cleared route money fee k n m m′ (record { sum = sum; count = taken .count / wait })
-    all-cleared sum-is = record {
-      sum = sum-is ∙ ap (sumOf money) worth-is;
-      count = count-is-once;
-      returned = all .returned;
-      still = λ none. all .still (all .counted ∙ ap (λ n. n * byMoney money 1 2) (sym count-is-once ∙ none) ∙ nothing (byMoney money 1 2));
-    }
+  pub all-cleared : {sum : Sum} → sum ≡ sumOf money (taken .worth / wait) → Cleared route money i k m m′ (record { sum = sum; count = taken .count / wait })
+  unfolding waitingOrders shipmentIn
+  all-cleared sum-is = record {
+    sum = sum-is ∙ ap (sumOf money) worth-is;
+    count = count-is-once;
+    returned = all .returned;
+    still = λ none. all .still (all .counted ∙ ap (λ n. n * byMoney money 1 2) (sym count-is-once ∙ none) ∙ nothing (byMoney money 1 2));
+  }
 
 -- what waits is part of the need
 waits-below : (route : Route) (money : Money) (s : Shipment) → waiting route money s ≤ need money s
 unfolding waiting need
 waits-below route K s = by (s .rows)
   where
-    by : (rows : List Row) → worthWaiting route K (s .fee) rows ≤ sumOver (λ (row : Row). row .amount .0) rows
+    by : (rows : List Row) → worthWaiting route K s rows ≤ sumOver (λ (row : Row). row .amount .0) rows
     by [] = omega arith
     by (row ∷ rows) = let rest = by rows in let here = only-if-most (waitsOn route K row) (row .amount .0) in omega arith
 waits-below route O s = by (s .rows)
   where
-    by : (rows : List Row) → worthWaiting route O (s .fee) rows ≤ length rows * s .fee
+    by : (rows : List Row) → worthWaiting route O s rows ≤ length rows * s .agreed .fee
     by [] = omega arith
-    by (row ∷ rows) = let rest = by rows in let here = only-if-most (waitsOn route O row) (s .fee) in omega arith
+    by (row ∷ rows) = let rest = by rows in let here = only-if-most (waitsOn route O row) (s .agreed .fee) in omega arith
 
 -- an order that waits is worth something, so that where nothing waits no order does
 module _ (route : Route) where
-  worthless : (money : Money) (fee : ℕ) (rows : List Row) → byMoney money false (eqb fee 0) ≡ true → worthWaiting route money fee rows ≡ 0
-  worthless K fee rows h = absurd (false≢true h)
-  worthless O fee [] h = refl
-  worthless O fee (row ∷ rows) h =
-      let rest = worthless O fee rows h in
-      let here = by (waitsOn route O row) fee (eqb-true fee 0 h) in
+  worthless : (money : Money) (s : Shipment) (rows : List Row) → byMoney money false (eqb (s .agreed .fee) 0) ≡ true → worthWaiting route money s rows ≡ 0
+  worthless K s rows h = absurd (false≢true h)
+  worthless O s [] h = refl
+  worthless O s (row ∷ rows) h =
+      let rest = worthless O s rows h in
+      let here = by (waitsOn route O row) (s .agreed .fee) (eqb-true (s .agreed .fee) 0 h) in
       omega arith
     where
       by : (t : Bool) (n : ℕ) → n ≡ 0 → onlyIf t n ≡ 0
       by true n none = none
       by false n none = refl
 
-  module _ (money : Money) (fee : ℕ) (stage : Stage) (worth-it : byMoney money false (eqb fee 0) ≡ false) where
-    least : (row : Row) → rowSound stage row ≡ true → 1 ≤ worth money fee row
+  module _ (money : Money) (s : Shipment) (worth-it : byMoney money false (eqb (s .agreed .fee) 0) ≡ false) where
+    least : (row : Row) → rowSound (s .stage) row ≡ true → 1 ≤ worth money s row
     unfolding rowSound
     least row sound = by money worth-it
       where
-        by : (money : Money) → byMoney money false (eqb fee 0) ≡ false → 1 ≤ worth money fee row
+        by : (money : Money) → byMoney money false (eqb (s .agreed .fee) 0) ≡ false → 1 ≤ worth money s row
         by K h = leb-true 1 (row .amount .0) (search halves)
-        by O h = let some = eqb-false fee 0 h in omega arith
+        by O h = let some = eqb-false (s .agreed .fee) 0 h in omega arith
 
-    unwaited : (rows : List Row) → rowsSound stage rows ≡ true → worthWaiting route money fee rows ≡ 0 → ordersWaiting route money rows ≡ 0
+    unwaited : (rows : List Row) → rowsSound (s .stage) rows ≡ true → worthWaiting route money s rows ≡ 0 → ordersWaiting route money rows ≡ 0
     unfolding rowsSound
     unwaited [] sound none = refl
     unwaited (row ∷ rows) sound none =
         let rest = unwaited rows (search halves) (omega arith) in
-        let here = by (waitsOn route money row) (worth money fee row) (least row (search halves)) (omega arith) in
+        let here = by (waitsOn route money row) (worth money s row) (least row (search halves)) (omega arith) in
         omega arith
       where
         by : (t : Bool) (n : ℕ) → 1 ≤ n → onlyIf t n ≡ 0 → onlyIf t 1 ≡ 0
@@ -193,12 +204,12 @@ module _ (m : List ℕ) (i k : ℕ) {head : List ℕ} (is-head : head ≡ headBy
   abbrev s : Shipment
   s = shipmentAt m i k
 
-  module _ {n : ℕ} (is-count : n ≡ orderCountIn head) where
-    count-is : n ≡ ordersAt m i
-    count-is = is-count ∙ orders-are m i k is-head
+  -- what the head says of the fee and of the number of orders
+  pub is-fee-of : (fee : Fee) → fee .0 ≡ feeIn head → IsFeeOf s fee
+  is-fee-of fee is = sym (is ∙ fee-is m i k is-head)
 
-    pub room-at : Sits m i k → k + n ≤ mostRows
-    room-at sits = omega (arith, count-is, sits .room)
+  pub count-at : {n : ℕ} → n ≡ orderCountIn head → n ≡ ordersAt m i
+  count-at is = is ∙ orders-are m i k is-head
 
   -- "Paired? 19"
   module _ (route : Route) (money : Money) {paired : Bool} (is-paired : paired ≡ isPaired (stageIn head)) where
@@ -225,48 +236,38 @@ module _ (m : List ℕ) (i k : ℕ) {head : List ℕ} (is-head : head ≡ headBy
             ∙ asked-yes 22 _ _ _ (ap not (sym is-barred ∙ free))
             ∙ asked-no 23 _ _ _ (ap (ltb 0) nothing))
 
-        module _ {fee : ℕ} (is-fee : fee ≡ feeIn head) {worth-nothing : Bool} (is-worth : worth-nothing ≡ byMoney money false (eqb fee 0)) where
-          fee-there : fee ≡ s .fee
-          fee-there = is-fee ∙ fee-is m i k is-head
+        pub waiting-within : Sits m i k → WithinSum (waiting route money s)
+        waiting-within sits =
+            let moneys = in-order s (sits .sound) .moneys money in
+            let all-needed = only-if-true (isPaired (s .stage)) (need money s) (paired-test ∙ held) in
+            omega (arith, waits-below route money s, all-needed, moneys .covered, moneys .accepted-fits)
 
-          worth-there : byMoney money false (eqb (s .fee) 0) ≡ worth-nothing
-          worth-there = sym (is-worth ∙ ap (λ fee. byMoney money false (eqb fee 0)) fee-there)
+        module _ {fee : ℕ} (is-fee : fee ≡ feeIn head) {worth-nothing : Bool} (is-worth : worth-nothing ≡ byMoney money false (eqb fee 0)) where
+          worth-there : byMoney money false (eqb (s .agreed .fee) 0) ≡ worth-nothing
+          worth-there = sym (is-worth ∙ ap (λ fee. byMoney money false (eqb fee 0)) (is-fee ∙ fee-is m i k is-head))
 
           pub worthless-at : worth-nothing ≡ true → ActAt m i k (returnedBy route money) (Refused 23) m
           unfolding waiting
-          worthless-at h = nothing-to-return (worthless route money (s .fee) (s .rows) (worth-there ∙ h))
+          worthless-at h = nothing-to-return (worthless route money s (s .rows) (worth-there ∙ h))
 
-          pub waiting-within : {n : ℕ} → n ≡ orderCountIn head → Sits m i k → WithinSum (worthWaiting route money fee (rowsFrom m k n))
-          unfolding waiting shipmentIn
-          waiting-within is-count sits =
-              let moneys = in-order s (sits .sound) .moneys money in
-              let all-needed = only-if-true (isPaired (s .stage)) (need money s) (paired-test ∙ held) in
-              rw (count-is is-count, fee-there) (omega (arith, waits-below route money s, all-needed, moneys .covered, moneys .accepted-fits))
-
-          module _ (worth-it : worth-nothing ≡ false) {n : ℕ} (is-count : n ≡ orderCountIn head) (sits : Sits m i k)
-              {m′ : List ℕ} {found : Waits} (cleared : Cleared route money fee k n m m′ found) where
+          module _ (worth-it : worth-nothing ≡ false) (sits : Sits m i k) {m′ : List ℕ} {found : Waits} (cleared : Cleared route money i k m m′ found) where
             sum-is : waiting route money s ≡ groszeIn (found .sum)
-            unfolding waiting shipmentIn
-            sum-is = sym (grosze-is money _ (cleared .sum) ∙ rw (count-is is-count, fee-there))
-
-            orders-waiting-are : waitingOrders route money s ≡ found .count
-            unfolding waitingOrders shipmentIn
-            orders-waiting-are = sym (cleared .count ∙ rw (count-is is-count))
+            sum-is = sym (grosze-is money _ (cleared .sum))
 
             pub nothing-at : groszeIn (found .sum) ≡ 0 → ActAt m i k (returnedBy route money) (Refused 23) m′
             unfolding waiting waitingOrders
             nothing-at nothing =
                 let sound = in-order s (sits .sound) .rows-sound in
-                let no-order = unwaited route money (s .fee) (s .stage) (worth-there ∙ worth-it) (s .rows) sound (sum-is ∙ nothing) in
-                rw (cleared .still (sym orders-waiting-are ∙ no-order)) (nothing-to-return (sum-is ∙ nothing))
+                let no-order = unwaited route money s (worth-there ∙ worth-it) (s .rows) sound (sum-is ∙ nothing) in
+                rw (cleared .still (cleared .count ∙ no-order)) (nothing-to-return (sum-is ∙ nothing))
 
             pub returned-at : 0 < groszeIn (found .sum) → ActAt m i k (returnedBy route money) (Returned (groszeIn (found .sum)) (found .count)) m′
             unfolding returnedBy shipmentIn
             returned-at some =
-                let all : RowsReturned route money k (ordersAt m i) m _ = rw (count-is is-count) at (cleared .returned) in
+                let all = cleared .returned in
                 rows-changed refl (sits .few) (all .only) (rows-mapped m _ (afterReturn route money) k (ordersAt m i) (all .rows))
                 (asked-yes 19 _ _ _ (paired-test ∙ held)
                 ∙ asked-yes 22 _ _ _ (ap not (sym is-barred ∙ free))
                 ∙ asked-yes 23 _ _ _ (ap (ltb 0) sum-is ∙ lt-ltb 0 (groszeIn (found .sum)) some)
                 ∙ asked-none _ _
-                ∙ ap (λ answer. leave answer (withRows (map (afterReturn route money) (s .rows)) s)) (λ t. Returned (sum-is t) (orders-waiting-are t)))
+                ∙ ap (λ answer. leave answer (withRows (map (afterReturn route money) (s .rows)) s)) (λ t. Returned (sum-is t) (sym (cleared .count) t)))

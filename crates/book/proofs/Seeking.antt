@@ -52,7 +52,7 @@ module _ (title : List ℕ) (amount : ℕ) where
       → Seeks (namedIn (titleOf title .name)) (transferred (titleOf title .money) amount) (Transfer title amount)
   unfolding step transferredIn titleOf shipmentIn
   seeks-named titled within = record {
-    called = λ (s : Shipment). sameName (titleOf title .name) (s .name);
+    called = λ (s : Shipment). sameName (titleOf title .name) (s .agreed .name);
     by-head = λ head rows. refl;
     steps = λ book.
         asked-behind (titleQuestions title) _ _ _ (passed-is (firstNo (titleQuestions title)) titled) ∙ asked-yes 12 _ _ _ within ∙ asked-none _ _;

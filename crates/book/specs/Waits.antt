@@ -1,41 +1,39 @@
--- What waits in rows, as code adds it up; and rows as a return leaves them. Only the contracts of the routes need these.
+-- What waits in a shipment, as code adds it up; and rows as a return leaves them. Only the contracts of the routes need these.
 use mathlib.Core.Path.{_≡_}
 use mathlib.Core.List.{List}
 use Prim.Native.Nat.{ℕ, _+_, _*_}
 use Rattle.money.specs.Money.{sumOf}
+use Rattle.money.specs.declared.Fee.{Fee}
 use Rattle.money.specs.declared.Money.{Money}
-use Rattle.model.specs.Shipment.{onlyIf, sumOver, worth}
-use Rattle.model.specs.Calls.{waitsOn, afterReturn}
+use Rattle.model.specs.Shipment.{Shipment, worth}
+use Rattle.model.specs.Calls.{afterReturn, waiting, waitingOrders}
 use Rattle.model.specs.declared.Route.{Route}
-use Rattle.model.specs.declared.Row.{Row}
 use Rattle.memory.specs.Layout.{rowBytes}
 use Rattle.memory.specs.Rows.{rowOf}
-use Rattle.memory.specs.Read.{rowsFrom}
+use Rattle.memory.specs.Read.{ordersAt, shipmentAt}
 use Rattle.memory.specs.Returns.{RowReturned}
 use Rattle.book.specs.declared.route.Taken.{Taken}
 use Rattle.book.specs.declared.route.Waits.{Waits}
 use Rattle.book.specs.Place.{RowsStored}
 
-abbrev pub worthWaiting : Route → Money → ℕ → List Row → ℕ
-worthWaiting route money fee rows = sumOver (λ (row : Row). onlyIf (waitsOn route money row) (worth money fee row)) rows
-
-abbrev pub ordersWaiting : Route → Money → List Row → ℕ
-ordersWaiting route money rows = sumOver (λ (row : Row). onlyIf (waitsOn route money row) 1) rows
+-- A fee is the one that a shipment was agreed on.
+abbrev pub IsFeeOf : Shipment → Fee → Type 0
+IsFeeOf s fee = s .agreed .fee ≡ fee .0
 
 -- Row k is as a return leaves it. What was taken from its byte of state is counted, and as many times the order's worth added up.
-pub record RowCleared (route : Route) (money : Money) (fee k : ℕ) (before : Taken) (m m′ : List ℕ) (after : Taken) : Type 0 where
+pub record RowCleared (route : Route) (money : Money) (s : Shipment) (k : ℕ) (before : Taken) (m m′ : List ℕ) (after : Taken) : Type 0 where
   pub taken : ℕ
   pub row : RowReturned route money k m m′ taken
-  pub added : after .worth ≡ before .worth + worth money fee (rowOf (rowBytes m k)) * taken
+  pub added : after .worth ≡ before .worth + worth money s (rowOf (rowBytes m k)) * taken
   pub counted : after .count ≡ before .count + taken
 
 -- Each of n rows from the k-th on is as a return leaves it, and nothing else moves.
 abbrev pub RowsReturned : Route → Money → ℕ → ℕ → List ℕ → List ℕ → Type 0
 RowsReturned route money k n m m′ = RowsStored (λ r. afterReturn route money (rowOf (rowBytes m r))) k n m m′
 
--- And what waited in them is found. Where it was of no order, no byte moves.
-pub record Cleared (route : Route) (money : Money) (fee k n : ℕ) (m m′ : List ℕ) (waited : Waits) : Type 0 where
-  pub sum : waited .sum ≡ sumOf money (worthWaiting route money fee (rowsFrom m k n))
-  pub count : waited .count ≡ ordersWaiting route money (rowsFrom m k n)
-  pub returned : RowsReturned route money k n m m′
+-- So are all rows of the shipment at a place, and what waited in them is found. Where it was of no order, no byte moves.
+pub record Cleared (route : Route) (money : Money) (i k : ℕ) (m m′ : List ℕ) (waited : Waits) : Type 0 where
+  pub sum : waited .sum ≡ sumOf money (waiting route money (shipmentAt m i k))
+  pub count : waited .count ≡ waitingOrders route money (shipmentAt m i k)
+  pub returned : RowsReturned route money k (ordersAt m i) m m′
   pub still : waited .count ≡ 0 → m′ ≡ m

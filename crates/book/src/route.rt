@@ -20,16 +20,16 @@ ghost use Prim.Native.Nat.{_+_, _≤_, _<_, _^_};
 ghost use lib.Dec.{eqb};
 ghost use lib.ListN.{length};
 ghost use Rattle.money.specs.Money.{WithinSum, groszeIn, moneyOfSum};
-ghost use Rattle.model.specs.Shipment.{mostRows, byMoney, worth};
-ghost use Rattle.model.specs.Calls.{Returned, isZprWithO, returnedBy};
+ghost use Rattle.model.specs.Shipment.{mostRows, byMoney, Shipment, worth};
+ghost use Rattle.model.specs.Calls.{Returned, waiting, isZprWithO, returnedBy};
 ghost use Rattle.model.specs.declared.Route.{Route};
 ghost use Rattle.memory.specs.Layout.{size, IsRow};
 ghost use Rattle.memory.specs.Rows.{rowOf};
-ghost use Rattle.memory.specs.Read.{rowsFrom, Sits};
+ghost use Rattle.memory.specs.Read.{shipmentAt, Sits};
 ghost use Rattle.memory.specs.Returns.{WaitTable, IsWaitTable};
 ghost use Rattle.book.specs.Answers.{returningOf};
 ghost use Rattle.book.specs.Place.{ActAt};
-ghost use Rattle.book.specs.Waits.{worthWaiting, RowCleared, Cleared};
+ghost use Rattle.book.specs.Waits.{IsFeeOf, RowCleared, Cleared};
 
 // What waits, and in how many orders.
 pub struct Waits {
@@ -43,10 +43,34 @@ pub struct Taken {
     pub count: u64,
 }
 
+// Returns what waits of a money on a route, in the shipment at a place.
+pub fn return_at(memory: &mut [u8], i: usize, k: usize, route: Route, money: Money) -> Returning
+    requires { ⌜ Sits (now memory) i k ⌝ }
+    ensures { λ r. ⌜ ActAt (now (memory .entry)) i k (returnedBy route money) (returningOf money r) (now (memory .exit)) ⌝ }
+{
+    let head = head_bytes(memory, i);
+    if !is_paired(head) {
+        return Returning::Refused(refusals::NOT_PAIRED);
+    }
+    if is_zpr_with_o(route, money) {
+        return Returning::Refused(refusals::UNDELIVERED_FEE);
+    }
+    if are_worth_nothing(money, fee(head)) {
+        return Returning::Refused(refusals::NOTHING_TO_RETURN);
+    }
+    let waits = clear(memory, i, k, route, money);
+    let sum = waits.sum;
+    let count = waits.count;
+    if sum.grosze() == 0 {
+        return Returning::Refused(refusals::NOTHING_TO_RETURN);
+    }
+    returning(sum, count)
+}
+
 // What an order is worth, in grosze: its amount in K, the fee in O.
 fn worth_of(row: &[u8], money: Money, fee: Fee) -> u64
     requires { ⌜ IsRow (now row) × (fee .0 < 2 ^ 32) ⌝ }
-    ensures { λ r. ⌜ (r ≡ worth money (fee .0) (rowOf (now (row .entry)))) × (r < 2 ^ 32) ⌝ }
+    ensures { λ r. ⌜ ((s : Shipment) → IsFeeOf s fee → r ≡ worth money s (rowOf (now (row .entry)))) × (r < 2 ^ 32) ⌝ }
 {
     match money {
         Money::K => amount(row).0,
@@ -64,7 +88,7 @@ fn clear_row(
     table: &[u8],
 ) -> Taken
     requires { ⌜ (k < mostRows) × (size ≤ length (now memory)) × (fee .0 < 2 ^ 32) × IsWaitTable (now table) × (taken .worth < 2 ^ 60) × (taken .count < 2 ^ 60) ⌝ }
-    ensures { λ r. ⌜ ((route : Route) → WaitTable route money (now (table .entry)) → RowCleared route money (fee .0) k taken (now (memory .entry)) (now (memory .exit)) r) × (r .worth < taken .worth + 2 ^ 34) × (r .count ≤ taken .count + 2) ⌝ }
+    ensures { λ r. ⌜ ((route : Route) (s : Shipment) → WaitTable route money (now (table .entry)) → IsFeeOf s fee → RowCleared route money s k taken (now (memory .entry)) (now (memory .exit)) r) × (r .worth < taken .worth + 2 ^ 34) × (r .count ≤ taken .count + 2) ⌝ }
 {
     let worth = worth_of(row_bytes(memory, k), money, fee);
     let took = store_return(memory, k, table);
@@ -73,12 +97,15 @@ fn clear_row(
     Taken { worth: sum, count }
 }
 
-// Ends every wait of a money on a route in the n rows from the k-th on, and answers what waited.
+// Ends every wait of a money on a route in the shipment at a place, and answers what waited.
 // A row asks no question: it counts a wait by what that adds to the byte of state, and the sums are divided by it at the end.
-fn clear(memory: &mut [u8], k: usize, n: usize, route: Route, money: Money, fee: Fee) -> Waits
-    requires { ⌜ (k + n ≤ mostRows) × (size ≤ length (now memory)) × (fee .0 < 2 ^ 32) × WithinSum (worthWaiting route money (fee .0) (rowsFrom (now memory) k n)) ⌝ }
-    ensures { λ r. ⌜ Cleared route money (fee .0) k n (now (memory .entry)) (now (memory .exit)) r ⌝ }
+fn clear(memory: &mut [u8], i: usize, k: usize, route: Route, money: Money) -> Waits
+    requires { ⌜ Sits (now memory) i k × WithinSum (waiting route money (shipmentAt (now memory) i k)) ⌝ }
+    ensures { λ r. ⌜ Cleared route money i k (now (memory .entry)) (now (memory .exit)) r ⌝ }
 {
+    let head = head_bytes(memory, i);
+    let n = orders(head) as usize;
+    let fee = fee(head);
     let table = wait_table(route, money);
     let mut taken = Taken { worth: 0, count: 0 };
     for done in 0..n {
@@ -130,30 +157,4 @@ pub fn returning(sum: Sum, count: u64) -> Returning
         Sum::Amounts(amount) => Returning::Amounts(amount, count),
         Sum::Fees(fee) => Returning::Fees(fee, count),
     }
-}
-
-// Returns what waits of a money on a route, in the shipment at a place.
-pub fn return_at(memory: &mut [u8], i: usize, k: usize, route: Route, money: Money) -> Returning
-    requires { ⌜ Sits (now memory) i k ⌝ }
-    ensures { λ r. ⌜ ActAt (now (memory .entry)) i k (returnedBy route money) (returningOf money r) (now (memory .exit)) ⌝ }
-{
-    let head = head_bytes(memory, i);
-    if !is_paired(head) {
-        return Returning::Refused(refusals::NOT_PAIRED);
-    }
-    if is_zpr_with_o(route, money) {
-        return Returning::Refused(refusals::UNDELIVERED_FEE);
-    }
-    let n = orders(head) as usize;
-    let fee = fee(head);
-    if are_worth_nothing(money, fee) {
-        return Returning::Refused(refusals::NOTHING_TO_RETURN);
-    }
-    let waits = clear(memory, k, n, route, money, fee);
-    let sum = waits.sum;
-    let count = waits.count;
-    if sum.grosze() == 0 {
-        return Returning::Refused(refusals::NOTHING_TO_RETURN);
-    }
-    returning(sum, count)
 }

@@ -142,19 +142,19 @@ module _ (name : Name) (fee n : ℕ) (long : length (name .ident .bytes) ≡ 17)
       let date : numberAt 4 head 18 ≡ name .date .0 = number-there 4 1 ∙ omega (arith, fits .date) in
       let fee-there : feeIn head ≡ fee = number-there 4 7 ∙ omega arith in
       λ i. record {
-        name = record {
-          ident = record { bytes = take-at (name .ident .bytes) (fieldsOf name fee n) 17 long i; len = byte-there 0 i };
-          date = record { 0 = date i };
-          payment = byte-there 5 i;
-          kind = byte-there 6 i;
+        agreed = record {
+          name = record {
+            ident = record { bytes = take-at (name .ident .bytes) (fieldsOf name fee n) 17 long i; len = byte-there 0 i };
+            date = record { 0 = date i };
+            payment = byte-there 5 i;
+            kind = byte-there 6 i;
+          };
+          fee = fee-there i;
         };
-        fee = fee-there i;
         stage = stageOf (byte-there 11 i);
         goAhead = eqb (byte-there 12 i) 1;
-        acceptedK = number-there 8 15 i;
-        acceptedO = number-there 8 23 i;
-        returnedK = number-there 8 31 i;
-        returnedO = number-there 8 39 i;
+        acceptedSums = record { k = number-there 8 15 i; o = number-there 8 23 i };
+        returnedSums = record { k = number-there 8 31 i; o = number-there 8 39 i };
         rows = rows;
       }
 

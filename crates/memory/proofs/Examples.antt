@@ -23,14 +23,11 @@ head =
     0 ∷ 0 ∷ 0 ∷ 0 ∷ 0 ∷ 0 ∷ 0 ∷ 0 ∷ 0 ∷ 0 ∷ []
 
 zs1-is-read : (rows : List Row) → shipmentIn head rows ≡ record {
-  name = record { ident = identOf (bytes "ZS1"); date = record { 0 = 20201007 }; payment = 0x41; kind = 0 };
-  fee = 350;
+  agreed = record { name = record { ident = identOf (bytes "ZS1"); date = record { 0 = 20201007 }; payment = 0x41; kind = 0 }; fee = 350 };
   stage = Paired;
   goAhead = true;
-  acceptedK = 17_650;
-  acceptedO = 1_050;
-  returnedK = 100;
-  returnedO = 0;
+  acceptedSums = record { k = 17_650; o = 1_050 };
+  returnedSums = record { k = 100; o = 0 };
   rows = rows;
 }
 unfolding head shipmentIn numberAt stageOf identOf identifier letter digit letterOrDigit lettersOrDigits

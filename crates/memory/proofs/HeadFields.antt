@@ -31,7 +31,7 @@ module _ (m : List ℕ) (i k : ℕ) {head : List ℕ} (is-head : head ≡ headBy
   pub orders-are : orderCountIn head ≡ ordersAt m i
   orders-are = ap orderCountIn is-head
 
-  pub fee-is : feeIn head ≡ s .fee
+  pub fee-is : feeIn head ≡ s .agreed .fee
   unfolding shipmentIn
   fee-is = ap feeIn is-head
 

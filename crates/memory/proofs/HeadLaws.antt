@@ -12,14 +12,14 @@ use lib.Seq.{take-set-le, getD-set-same, getD-set-other}
 use Rattle.text.proofs.Branches.{either-way, and-left, and-right, both-yes}
 use Rattle.money.specs.declared.Money.{Money}
 use Rattle.money.specs.declared.Money.the-variants.{K, O}
-use Rattle.model.specs.Shipment.{accepted, returned, isWaiting, isPaired}
+use Rattle.model.specs.Shipment.{PerMoney, plusIn, accepted, returned, isWaiting, isPaired}
 use Rattle.model.specs.Calls.{withStage, withGoAhead, withAccepted, withReturned}
 use Rattle.model.specs.declared.Row.{Row}
 use Rattle.model.specs.declared.Stage.{Stage}
 use Rattle.model.specs.declared.Stage.the-variants.{Waiting, Paired, Closed}
 use Rattle.memory.specs.Number.{numberAt, withNumber}
 use Rattle.memory.specs.Layout.{headSize, IsHead}
-use Rattle.memory.specs.Heads.{nameIn, feeIn, stageOf, stageAt, stageIn, goAheadAt, goAheadIn, flagsInForm, orderCountIn, acceptedAt, returnedAt, shipmentIn}
+use Rattle.memory.specs.Heads.{nameIn, agreedIn, stageOf, stageAt, stageIn, goAheadAt, goAheadIn, flagsInForm, orderCountIn, acceptedAt, returnedAt, sumsIn, shipmentIn}
 use Rattle.memory.specs.Stored.{stageByte, FieldStored}
 use Rattle.memory.proofs.Numbers.{stored-is-read}
 
@@ -50,6 +50,13 @@ module _ (from to : ℕ) (head head′ : List ℕ) (e : Elsewhere from to head h
     payment = e .before 22 (omega arith) i;
     kind = e .before 23 (omega arith) i;
   }
+
+  same-agreed : 28 ≤ from → agreedIn head′ ≡ agreedIn head
+  same-agreed h = λ i. record { name = same-name (omega arith) i; fee = number-before 4 24 (omega arith) i }
+
+  -- the sums of either money, where both lie behind
+  same-sums : (at : Money → ℕ) → to ≤ at K → to ≤ at O → sumsIn at head′ ≡ sumsIn at head
+  same-sums at k o = λ i. record { k = number-behind 8 (at K) k i; o = number-behind 8 (at O) o i }
 
 byte-elsewhere : (head : List ℕ) (q v : ℕ) → 17 ≤ q → Elsewhere q (q + 1) head (set head q v)
 byte-elsewhere head q v h = record {
@@ -123,6 +130,10 @@ paired-byte byte =
     either-way (eqb byte 0) (λ zero. rw zero (ap (λ b. eqb b 1) (eqb-true byte 0 zero)))
     (λ other. rw other (either-way (eqb byte 1) (λ one. rw one) (λ more. rw more)))
 
+-- the sums of either money, each by itself
+both-sums : (head : List ℕ) (at : Money → ℕ) {k o : ℕ} → numberAt 8 head (at K) ≡ k → numberAt 8 head (at O) ≡ o → sumsIn at head ≡ record { k = k; o = o }
+both-sums head at is-k is-o = λ i. record { k = is-k i; o = is-o i }
+
 module _ (head : List ℕ) (rows : List Row) (whole : IsHead head) where
   stage-stored : (stage : Stage) → shipmentIn (set head stageAt (stageByte stage)) rows ≡ withStage stage (shipmentIn head rows)
   unfolding shipmentIn
@@ -132,14 +143,11 @@ module _ (head : List ℕ) (rows : List Row) (whole : IsHead head) where
       let there : getD head′ stageAt 0 ≡ stageByte stage = getD-set-same head stageAt (stageByte stage) 0 (omega arith) in
       let staged = ap stageOf there ∙ stage-back stage in
       λ i. record {
-        name = same-name 28 29 head head′ e (omega arith) i;
-        fee = number-before 28 29 head head′ e 4 24 (omega arith) i;
+        agreed = same-agreed 28 29 head head′ e (omega arith) i;
         stage = staged i;
         goAhead = eqb (e .behind goAheadAt (omega arith) i) 1;
-        acceptedK = number-behind 28 29 head head′ e 8 32 (omega arith) i;
-        acceptedO = number-behind 28 29 head head′ e 8 40 (omega arith) i;
-        returnedK = number-behind 28 29 head head′ e 8 48 (omega arith) i;
-        returnedO = number-behind 28 29 head head′ e 8 56 (omega arith) i;
+        acceptedSums = same-sums 28 29 head head′ e acceptedAt (omega arith) (omega arith) i;
+        returnedSums = same-sums 28 29 head head′ e returnedAt (omega arith) (omega arith) i;
         rows = rows;
       }
 
@@ -149,14 +157,11 @@ module _ (head : List ℕ) (rows : List Row) (whole : IsHead head) where
       let head′ = set head goAheadAt 1 in
       let e = byte-elsewhere head goAheadAt 1 (omega arith) in
       λ i. record {
-        name = same-name 29 30 head head′ e (omega arith) i;
-        fee = number-before 29 30 head head′ e 4 24 (omega arith) i;
+        agreed = same-agreed 29 30 head head′ e (omega arith) i;
         stage = stageOf (e .before stageAt (omega arith) i);
         goAhead = eqb (getD-set-same head goAheadAt 1 0 (omega arith) i) 1;
-        acceptedK = number-behind 29 30 head head′ e 8 32 (omega arith) i;
-        acceptedO = number-behind 29 30 head head′ e 8 40 (omega arith) i;
-        returnedK = number-behind 29 30 head head′ e 8 48 (omega arith) i;
-        returnedO = number-behind 29 30 head head′ e 8 56 (omega arith) i;
+        acceptedSums = same-sums 29 30 head head′ e acceptedAt (omega arith) (omega arith) i;
+        returnedSums = same-sums 29 30 head head′ e returnedAt (omega arith) (omega arith) i;
         rows = rows;
       }
 
@@ -177,29 +182,23 @@ module _ (head : List ℕ) (rows : List Row) (whole : IsHead head) where
     above : (q : ℕ) → at + 8 ≤ q → numberAt 8 after q ≡ numberAt 8 head q
     above q h = number-behind at (at + 8) head after elsewhere 8 q h
 
-    -- the shipment, whatever its four fields of money then are
-    with-moneys : (k o rk ro : ℕ) → numberAt 8 after 32 ≡ k → numberAt 8 after 40 ≡ o → numberAt 8 after 48 ≡ rk → numberAt 8 after 56 ≡ ro
+    -- the shipment, whatever its sums then are
+    with-sums : (accepted returned : PerMoney) → sumsIn acceptedAt after ≡ accepted → sumsIn returnedAt after ≡ returned
         → shipmentIn after rows ≡ record {
-          name = nameIn head;
-          fee = feeIn head;
+          agreed = agreedIn head;
           stage = stageIn head;
           goAhead = goAheadIn head;
-          acceptedK = k;
-          acceptedO = o;
-          returnedK = rk;
-          returnedO = ro;
+          acceptedSums = accepted;
+          returnedSums = returned;
           rows = rows;
         }
     unfolding shipmentIn
-    with-moneys k o rk ro ek eo erk ero = λ i. record {
-      name = same-name at (at + 8) head after elsewhere (omega arith) i;
-      fee = number-before at (at + 8) head after elsewhere 4 24 (omega arith) i;
+    with-sums accepted returned are-accepted are-returned = λ i. record {
+      agreed = same-agreed at (at + 8) head after elsewhere (omega arith) i;
       stage = stageOf (elsewhere .before stageAt (omega arith) i);
       goAhead = eqb (elsewhere .before goAheadAt (omega arith) i) 1;
-      acceptedK = ek i;
-      acceptedO = eo i;
-      returnedK = erk i;
-      returnedO = ero i;
+      acceptedSums = are-accepted i;
+      returnedSums = are-returned i;
       rows = rows;
     }
 
@@ -209,14 +208,15 @@ module _ (head : List ℕ) (rows : List Row) (whole : IsHead head) where
   accepted-stored K n fits =
       let x = numberAt 8 head 32 + n in
       let same : (q : ℕ) → 40 ≤ q → numberAt 8 (withNumber 8 head 32 x) q ≡ numberAt 8 head q = above 32 x (omega arith) (omega arith) fits in
-      with-moneys 32 x (omega arith) (omega arith) fits x (numberAt 8 head 40 + 0) (numberAt 8 head 48) (numberAt 8 head 56)
-      (there 32 x (omega arith) (omega arith) fits) (omega (arith, same 40 (omega arith))) (same 48 (omega arith)) (same 56 (omega arith))
+      with-sums 32 x (omega arith) (omega arith) fits (plusIn K n (sumsIn acceptedAt head)) (sumsIn returnedAt head)
+      (both-sums _ acceptedAt (there 32 x (omega arith) (omega arith) fits) (omega (arith, same 40 (omega arith))))
+      (both-sums _ returnedAt (same 48 (omega arith)) (same 56 (omega arith)))
   accepted-stored O n fits =
       let x = numberAt 8 head 40 + n in
       let same : (q : ℕ) → 48 ≤ q → numberAt 8 (withNumber 8 head 40 x) q ≡ numberAt 8 head q = above 40 x (omega arith) (omega arith) fits in
-      with-moneys 40 x (omega arith) (omega arith) fits (numberAt 8 head 32 + 0) x (numberAt 8 head 48) (numberAt 8 head 56)
-      (omega (arith, below 40 x (omega arith) (omega arith) fits 32 (omega arith))) (there 40 x (omega arith) (omega arith) fits)
-      (same 48 (omega arith)) (same 56 (omega arith))
+      with-sums 40 x (omega arith) (omega arith) fits (plusIn O n (sumsIn acceptedAt head)) (sumsIn returnedAt head)
+      (both-sums _ acceptedAt (omega (arith, below 40 x (omega arith) (omega arith) fits 32 (omega arith))) (there 40 x (omega arith) (omega arith) fits))
+      (both-sums _ returnedAt (same 48 (omega arith)) (same 56 (omega arith)))
 
   returned-stored : (money : Money) (n : ℕ) → returned money (shipmentIn head rows) + n < 2 ^ 64
       → shipmentIn (withNumber 8 head (returnedAt money) (returned money (shipmentIn head rows) + n)) rows ≡ withReturned money n (shipmentIn head rows)
@@ -224,14 +224,15 @@ module _ (head : List ℕ) (rows : List Row) (whole : IsHead head) where
   returned-stored K n fits =
       let x = numberAt 8 head 48 + n in
       let same : (q : ℕ) → q + 8 ≤ 48 → numberAt 8 (withNumber 8 head 48 x) q ≡ numberAt 8 head q = below 48 x (omega arith) (omega arith) fits in
-      with-moneys 48 x (omega arith) (omega arith) fits (numberAt 8 head 32) (numberAt 8 head 40) x (numberAt 8 head 56 + 0)
-      (same 32 (omega arith)) (same 40 (omega arith)) (there 48 x (omega arith) (omega arith) fits)
-      (omega (arith, above 48 x (omega arith) (omega arith) fits 56 (omega arith)))
+      with-sums 48 x (omega arith) (omega arith) fits (sumsIn acceptedAt head) (plusIn K n (sumsIn returnedAt head))
+      (both-sums _ acceptedAt (same 32 (omega arith)) (same 40 (omega arith)))
+      (both-sums _ returnedAt (there 48 x (omega arith) (omega arith) fits) (omega (arith, above 48 x (omega arith) (omega arith) fits 56 (omega arith))))
   returned-stored O n fits =
       let x = numberAt 8 head 56 + n in
       let same : (q : ℕ) → q + 8 ≤ 56 → numberAt 8 (withNumber 8 head 56 x) q ≡ numberAt 8 head q = below 56 x (omega arith) (omega arith) fits in
-      with-moneys 56 x (omega arith) (omega arith) fits (numberAt 8 head 32) (numberAt 8 head 40) (numberAt 8 head 48 + 0) x
-      (same 32 (omega arith)) (same 40 (omega arith)) (omega (arith, same 48 (omega arith))) (there 56 x (omega arith) (omega arith) fits)
+      with-sums 56 x (omega arith) (omega arith) fits (sumsIn acceptedAt head) (plusIn O n (sumsIn returnedAt head))
+      (both-sums _ acceptedAt (same 32 (omega arith)) (same 40 (omega arith)))
+      (both-sums _ returnedAt (omega (arith, same 48 (omega arith))) (there 56 x (omega arith) (omega arith) fits))
 
   pub field-stored : FieldStored head rows
   field-stored = record { stage = stage-stored; go-ahead = go-ahead-stored; accepted = accepted-stored; returned = returned-stored }

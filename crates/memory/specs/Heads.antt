@@ -7,7 +7,7 @@ use lib.ListN.{getD, take}
 use Rattle.money.specs.declared.Money.{Money}
 use Rattle.money.specs.declared.Money.the-variants.{K, O}
 use Rattle.epe.specs.declared.name.Name.{Name}
-use Rattle.model.specs.Shipment.{Shipment}
+use Rattle.model.specs.Shipment.{Agreed, PerMoney, Shipment}
 use Rattle.model.specs.declared.Row.{Row}
 use Rattle.model.specs.declared.Stage.{Stage}
 use Rattle.model.specs.declared.Stage.the-variants.{Waiting, Paired, Closed}
@@ -68,15 +68,18 @@ abbrev pub surplusIn : Money → List ℕ → ℕ
 surplusIn money head = numberAt 8 head (returnedAt money)
 
 -- The shipment of a head and its orders.
+abbrev pub agreedIn : List ℕ → Agreed
+agreedIn head = record { name = nameIn head; fee = feeIn head }
+
+abbrev pub sumsIn : (Money → ℕ) → List ℕ → PerMoney
+sumsIn at head = record { k = numberAt 8 head (at K); o = numberAt 8 head (at O) }
+
 unfoldable pub shipmentIn : List ℕ → List Row → Shipment
 shipmentIn head rows = record {
-  name = nameIn head;
-  fee = feeIn head;
+  agreed = agreedIn head;
   stage = stageIn head;
   goAhead = goAheadIn head;
-  acceptedK = transfersIn K head;
-  acceptedO = transfersIn O head;
-  returnedK = surplusIn K head;
-  returnedO = surplusIn O head;
+  acceptedSums = sumsIn acceptedAt head;
+  returnedSums = sumsIn returnedAt head;
   rows = rows;
 }

@@ -41,14 +41,14 @@ use Rattle.model.proofs.Shipments.{stateFor, fitting-state, in-range}
 use Rattle.model.proofs.SoundParts.{halves, InOrder}
 
 -- What an order holds in a Paired shipment.
-abbrev pub heldBy : Money → ℕ → Row → ℕ
-heldBy money fee row = onlyIf (holds money (row .state)) (worth money fee row)
+abbrev pub heldBy : Money → Shipment → Row → ℕ
+heldBy money s row = onlyIf (holds money (row .state)) (worth money s row)
 
 -- What conservation needs of a shipment: its transfers cover what is taken from them; before pairing every order still holds its whole worth, so
 -- that pairing moves just the need; and no surplus was returned while it waits.
 pub record Balanced (s : Shipment) : Type 0 where
   pub covered : (money : Money) → needOncePaired money s + returned money s ≤ accepted money s
-  pub whole : isPaired (s .stage) ≡ false → (money : Money) → sumOver (heldBy money (s .fee)) (s .rows) ≡ need money s
+  pub whole : isPaired (s .stage) ≡ false → (money : Money) → sumOver (heldBy money s) (s .rows) ≡ need money s
   pub unreturned : isWaiting (s .stage) ≡ true → (money : Money) → returned money s ≡ 0
 
 -- a sound shipment is balanced: before pairing its orders are Open, or Faulty with both moneys waiting
@@ -64,20 +64,20 @@ unpaired-holds (Faulty fault false o) e money = absurd (false≢true e)
 unpaired-holds (Undelivered k) e money = absurd (false≢true e)
 unpaired-holds (Withdrawn k o) e money = absurd (false≢true e)
 
-module _ (stage : Stage) (fee : ℕ) (unpaired : isPaired stage ≡ false) where
-  row-whole : (money : Money) (row : Row) → rowSound stage row ≡ true → heldBy money fee row ≡ worth money fee row
+module _ (stage : Stage) (s : Shipment) (unpaired : isPaired stage ≡ false) where
+  row-whole : (money : Money) (row : Row) → rowSound stage row ≡ true → heldBy money s row ≡ worth money s row
   unfolding rowSound
   row-whole money row h =
       let before : (isPaired stage || beforePairing (row .state)) ≡ true = search halves in
-      only-if-true (holds money (row .state)) (worth money fee row) (unpaired-holds (row .state) (rw unpaired at before) money)
+      only-if-true (holds money (row .state)) (worth money s row) (unpaired-holds (row .state) (rw unpaired at before) money)
 
   rows-whole : (money : Money) (rows : List Row) → rowsSound stage rows ≡ true
-      → sumOver (heldBy money fee) rows ≡ byMoney money (sumOver amountOf rows) (length rows * fee)
+      → sumOver (heldBy money s) rows ≡ byMoney money (sumOver amountOf rows) (length rows * s .agreed .fee)
   unfolding rowsSound
   rows-whole K [] h = refl
-  rows-whole O [] h = sym (zero-mul fee)
+  rows-whole O [] h = sym (zero-mul (s .agreed .fee))
   rows-whole K (row ∷ rows) h = omega (arith, row-whole K row (search halves), rows-whole K rows (search halves))
-  rows-whole O (row ∷ rows) h = omega (arith, row-whole O row (search halves), rows-whole O rows (search halves), suc-mul (length rows) fee)
+  rows-whole O (row ∷ rows) h = omega (arith, row-whole O row (search halves), rows-whole O rows (search halves), suc-mul (length rows) (s .agreed .fee))
 
 pub balanced : (s : Shipment) → InOrder s → Balanced s
 unfolding need
@@ -87,13 +87,13 @@ balanced s h = record {
   unreturned = λ waiting money. h .moneys money .unreturned waiting;
 }
   where
-    whole : isPaired (s .stage) ≡ false → (money : Money) → sumOver (heldBy money (s .fee)) (s .rows) ≡ need money s
-    whole unpaired K = rows-whole (s .stage) (s .fee) unpaired K (s .rows) (h .rows-sound)
-    whole unpaired O = rows-whole (s .stage) (s .fee) unpaired O (s .rows) (h .rows-sound)
+    whole : isPaired (s .stage) ≡ false → (money : Money) → sumOver (heldBy money s) (s .rows) ≡ need money s
+    whole unpaired K = rows-whole (s .stage) s unpaired K (s .rows) (h .rows-sound)
+    whole unpaired O = rows-whole (s .stage) s unpaired O (s .rows) (h .rows-sound)
 
 -- What a call does to its shipment, as demand 3 wants it.
 pub record Fair (call : Call) (s : Shipment) (outcome : Outcome) : Type 0 where
-  pub name : outcome .shipment .name ≡ s .name
+  pub name : outcome .shipment .agreed .name ≡ s .agreed .name
   pub refused : isRefusal (outcome .answer) ≡ true → outcome .shipment ≡ s
   pub conserves : (money : Money)
       → held money s + free money s + moved call (outcome .answer) .comesIn money
@@ -162,7 +162,7 @@ module _ (ident : Ident) (s : Shipment) (b : Balanced s) where
 
     none-held : (money : Money) → held money s ≡ 0
     unfolding held
-    none-held money = only-if-false (isPaired (s .stage)) (sumOver (heldBy money (s .fee)) (s .rows)) unpaired
+    none-held money = only-if-false (isPaired (s .stage)) (sumOver (heldBy money s) (s .rows)) unpaired
 
     close-conserves : (money : Money) → held money s + free money s + 0 ≡ held money (withStage Closed s) + free money (withStage Closed s) + 0
     unfolding held free
@@ -213,7 +213,7 @@ module _ (call : Call) (s : Shipment) (b : Balanced s) (is-paired : isPaired (s 
   module _
       (counts : length rows ≡ length (s .rows))
       (sums : sumOver amountOf rows ≡ sumOver amountOf (s .rows))
-      (fallen : (money : Money) → sumOver (heldBy money (s .fee)) rows + moved call answer .goesOut money ≡ sumOver (heldBy money (s .fee)) (s .rows))
+      (fallen : (money : Money) → sumOver (heldBy money s) rows + moved call answer .goesOut money ≡ sumOver (heldBy money s) (s .rows))
       (none-in : (money : Money) → moved call answer .comesIn money ≡ 0)
       (taken : isRefusal answer ≡ false) where
     rows-need : (money : Money) → needOncePaired money (withRows rows s) ≡ needOncePaired money s
@@ -228,8 +228,8 @@ module _ (call : Call) (s : Shipment) (b : Balanced s) (is-paired : isPaired (s 
           rows-need money,
           fallen money,
           none-in money,
-          only-if-true (isPaired (s .stage)) (sumOver (heldBy money (s .fee)) rows) is-paired,
-          only-if-true (isPaired (s .stage)) (sumOver (heldBy money (s .fee)) (s .rows)) is-paired,
+          only-if-true (isPaired (s .stage)) (sumOver (heldBy money s) rows) is-paired,
+          only-if-true (isPaired (s .stage)) (sumOver (heldBy money s) (s .rows)) is-paired,
         )
 
     rows-fair : Fair call s (leave answer (withRows rows s))
@@ -241,30 +241,30 @@ module _ (call : Call) (s : Shipment) (b : Balanced s) (is-paired : isPaired (s 
     }
 
 -- what the order holds less by a deed is what leaves
-deed-moves : (deed : Deed) (ident : Ident) (number fee : ℕ) (row : Row) (money : Money)
-    → heldBy money fee (withState (becomes deed) row) + moved (On ident (OnOrder deed number)) (says deed fee row) .goesOut money
-    ≡ heldBy money fee (withState (stateFor deed) row)
-deed-moves Post ident number fee row K = omega arith
-deed-moves Post ident number fee row O = omega arith
-deed-moves Pay ident number fee row K = omega arith
-deed-moves Pay ident number fee row O = omega arith
-deed-moves MarkUndelivered ident number fee row K = omega arith
-deed-moves MarkUndelivered ident number fee row O = omega arith
-deed-moves Withdraw ident number fee row K = omega arith
-deed-moves Withdraw ident number fee row O = omega arith
+deed-moves : (deed : Deed) (ident : Ident) (number : ℕ) (s : Shipment) (row : Row) (money : Money)
+    → heldBy money s (withState (becomes deed) row) + moved (On ident (OnOrder deed number)) (says deed s row) .goesOut money
+    ≡ heldBy money s (withState (stateFor deed) row)
+deed-moves Post ident number s row K = omega arith
+deed-moves Post ident number s row O = omega arith
+deed-moves Pay ident number s row K = omega arith
+deed-moves Pay ident number s row O = omega arith
+deed-moves MarkUndelivered ident number s row K = omega arith
+deed-moves MarkUndelivered ident number s row O = omega arith
+deed-moves Withdraw ident number s row K = omega arith
+deed-moves Withdraw ident number s row O = omega arith
 
-deed-brings-none : (deed : Deed) (ident : Ident) (number fee : ℕ) (row : Row) (money : Money)
-    → moved (On ident (OnOrder deed number)) (says deed fee row) .comesIn money ≡ 0
-deed-brings-none Post ident number fee row money = refl
-deed-brings-none Pay ident number fee row money = refl
-deed-brings-none MarkUndelivered ident number fee row money = refl
-deed-brings-none Withdraw ident number fee row money = refl
+deed-brings-none : (deed : Deed) (ident : Ident) (number : ℕ) (s : Shipment) (row : Row) (money : Money)
+    → moved (On ident (OnOrder deed number)) (says deed s row) .comesIn money ≡ 0
+deed-brings-none Post ident number s row money = refl
+deed-brings-none Pay ident number s row money = refl
+deed-brings-none MarkUndelivered ident number s row money = refl
+deed-brings-none Withdraw ident number s row money = refl
 
-deed-taken : (deed : Deed) (fee : ℕ) (row : Row) → isRefusal (says deed fee row) ≡ false
-deed-taken Post fee row = refl
-deed-taken Pay fee row = refl
-deed-taken MarkUndelivered fee row = refl
-deed-taken Withdraw fee row = refl
+deed-taken : (deed : Deed) (s : Shipment) (row : Row) → isRefusal (says deed s row) ≡ false
+deed-taken Post s row = refl
+deed-taken Pay s row = refl
+deed-taken MarkUndelivered s row = refl
+deed-taken Withdraw s row = refl
 
 module _ (ident : Ident) (deed : Deed) (number : ℕ) (s : Shipment) (b : Balanced s) where
   abbrev order : Row
@@ -275,24 +275,24 @@ module _ (ident : Ident) (deed : Deed) (number : ℕ) (s : Shipment) (b : Balanc
 
   module _ (is-paired : isPaired (s .stage) ≡ true) (there : number - 1 < length (s .rows)) (fitting : fits deed (order .state) ≡ true) where
     deed-held : (money : Money)
-        → sumOver (heldBy money (s .fee)) (set (s .rows) (number - 1) after) + moved (On ident (OnOrder deed number)) (says deed (s .fee) order) .goesOut money
-        ≡ sumOver (heldBy money (s .fee)) (s .rows)
+        → sumOver (heldBy money s) (set (s .rows) (number - 1) after) + moved (On ident (OnOrder deed number)) (says deed s order) .goesOut money
+        ≡ sumOver (heldBy money s) (s .rows)
     deed-held money =
         omega (
           arith,
-          sum-set (heldBy money (s .fee)) (s .rows) (number - 1) after noOrder there,
-          deed-moves deed ident number (s .fee) order money,
-          ap (λ state. heldBy money (s .fee) (withState state order)) (fitting-state deed (order .state) fitting),
+          sum-set (heldBy money s) (s .rows) (number - 1) after noOrder there,
+          deed-moves deed ident number s order money,
+          ap (λ state. heldBy money s (withState state order)) (fitting-state deed (order .state) fitting),
         )
 
-    deed-fair : Fair (On ident (OnOrder deed number)) s (leave (says deed (s .fee) order) (withRows (set (s .rows) (number - 1) after) s))
+    deed-fair : Fair (On ident (OnOrder deed number)) s (leave (says deed s order) (withRows (set (s .rows) (number - 1) after) s))
     deed-fair =
-        rows-fair (On ident (OnOrder deed number)) s b is-paired (set (s .rows) (number - 1) after) (says deed (s .fee) order)
+        rows-fair (On ident (OnOrder deed number)) s b is-paired (set (s .rows) (number - 1) after) (says deed s order)
         (length-set (s .rows) (number - 1) after)
         (omega (arith, sum-set amountOf (s .rows) (number - 1) after noOrder there))
         deed-held
-        (deed-brings-none deed ident number (s .fee) order)
-        (deed-taken deed (s .fee) order)
+        (deed-brings-none deed ident number s order)
+        (deed-taken deed s order)
 
   on-order-fair : Fair (On ident (OnOrder deed number)) s (onOrder deed number s)
   unfolding onOrder
@@ -305,41 +305,41 @@ rowOf amount state = record { amount = amount; state = state }
 abbrev afterIf : Bool → Money → Row → Row
 afterIf t money row = cond t (withState (cleared money (row .state)) row) row
 
-back-same : (t : Bool) (money : Money) (fee : ℕ) (amount : Amount) (state : State)
-    → heldBy money fee (afterIf (t && waits money state) money (rowOf amount state)) + onlyIf (t && waits money state) (worth money fee (rowOf amount state))
-    ≡ heldBy money fee (rowOf amount state)
-back-same false money fee amount state = omega arith
-back-same true money fee amount Open = omega arith
-back-same true money fee amount Posted = omega arith
-back-same true money fee amount Paid = omega arith
-back-same true K fee amount (Faulty fault true o) = omega arith
-back-same true K fee amount (Faulty fault false o) = omega arith
-back-same true O fee amount (Faulty fault k true) = omega arith
-back-same true O fee amount (Faulty fault k false) = omega arith
-back-same true K fee amount (Undelivered true) = omega arith
-back-same true K fee amount (Undelivered false) = omega arith
-back-same true O fee amount (Undelivered k) = omega arith
-back-same true K fee amount (Withdrawn true o) = omega arith
-back-same true K fee amount (Withdrawn false o) = omega arith
-back-same true O fee amount (Withdrawn k true) = omega arith
-back-same true O fee amount (Withdrawn k false) = omega arith
+back-same : (t : Bool) (money : Money) (s : Shipment) (amount : Amount) (state : State)
+    → heldBy money s (afterIf (t && waits money state) money (rowOf amount state)) + onlyIf (t && waits money state) (worth money s (rowOf amount state))
+    ≡ heldBy money s (rowOf amount state)
+back-same false money s amount state = omega arith
+back-same true money s amount Open = omega arith
+back-same true money s amount Posted = omega arith
+back-same true money s amount Paid = omega arith
+back-same true K s amount (Faulty fault true o) = omega arith
+back-same true K s amount (Faulty fault false o) = omega arith
+back-same true O s amount (Faulty fault k true) = omega arith
+back-same true O s amount (Faulty fault k false) = omega arith
+back-same true K s amount (Undelivered true) = omega arith
+back-same true K s amount (Undelivered false) = omega arith
+back-same true O s amount (Undelivered k) = omega arith
+back-same true K s amount (Withdrawn true o) = omega arith
+back-same true K s amount (Withdrawn false o) = omega arith
+back-same true O s amount (Withdrawn k true) = omega arith
+back-same true O s amount (Withdrawn k false) = omega arith
 
 abbrev theOther : Money → Money
 theOther K = O
 theOther O = K
 
-back-other : (t : Bool) (money : Money) (fee : ℕ) (amount : Amount) (state : State)
-    → heldBy (theOther money) fee (afterIf t money (rowOf amount state)) ≡ heldBy (theOther money) fee (rowOf amount state)
-back-other false money fee amount state = refl
-back-other true money fee amount Open = refl
-back-other true money fee amount Posted = refl
-back-other true money fee amount Paid = refl
-back-other true K fee amount (Faulty fault k o) = refl
-back-other true O fee amount (Faulty fault k o) = refl
-back-other true K fee amount (Undelivered k) = refl
-back-other true O fee amount (Undelivered k) = refl
-back-other true K fee amount (Withdrawn k o) = refl
-back-other true O fee amount (Withdrawn k o) = refl
+back-other : (t : Bool) (money : Money) (s : Shipment) (amount : Amount) (state : State)
+    → heldBy (theOther money) s (afterIf t money (rowOf amount state)) ≡ heldBy (theOther money) s (rowOf amount state)
+back-other false money s amount state = refl
+back-other true money s amount Open = refl
+back-other true money s amount Posted = refl
+back-other true money s amount Paid = refl
+back-other true K s amount (Faulty fault k o) = refl
+back-other true O s amount (Faulty fault k o) = refl
+back-other true K s amount (Undelivered k) = refl
+back-other true O s amount (Undelivered k) = refl
+back-other true K s amount (Withdrawn k o) = refl
+back-other true O s amount (Withdrawn k o) = refl
 
 back-amount : (t : Bool) (money : Money) (row : Row) → amountOf (afterIf t money row) ≡ amountOf row
 back-amount true money row = refl
@@ -347,23 +347,23 @@ back-amount false money row = refl
 
 module _ (route : Route) (s : Shipment) where
   returned-same : (money : Money)
-      → sumOver (heldBy money (s .fee)) (map (afterReturn route money) (s .rows)) + waiting route money s ≡ sumOver (heldBy money (s .fee)) (s .rows)
+      → sumOver (heldBy money s) (map (afterReturn route money) (s .rows)) + waiting route money s ≡ sumOver (heldBy money s) (s .rows)
   unfolding waiting
   returned-same money =
-      sum-moved (heldBy money (s .fee)) (λ row. onlyIf (waitsOn route money row) (worth money (s .fee) row)) (heldBy money (s .fee)) (afterReturn route money)
-      (λ row. back-same (takes route (row .state)) money (s .fee) (row .amount) (row .state))
+      sum-moved (heldBy money s) (λ row. onlyIf (waitsOn route money row) (worth money s row)) (heldBy money s) (afterReturn route money)
+      (λ row. back-same (takes route (row .state)) money s (row .amount) (row .state))
       (s .rows)
 
   returned-other : (money : Money)
-      → sumOver (heldBy (theOther money) (s .fee)) (map (afterReturn route money) (s .rows)) ≡ sumOver (heldBy (theOther money) (s .fee)) (s .rows)
+      → sumOver (heldBy (theOther money) s) (map (afterReturn route money) (s .rows)) ≡ sumOver (heldBy (theOther money) s) (s .rows)
   returned-other money =
-      sum-map (heldBy (theOther money) (s .fee)) (heldBy (theOther money) (s .fee)) (afterReturn route money)
-      (λ row. back-other (waitsOn route money row) money (s .fee) (row .amount) (row .state))
+      sum-map (heldBy (theOther money) s) (heldBy (theOther money) s) (afterReturn route money)
+      (λ row. back-other (waitsOn route money row) money s (row .amount) (row .state))
       (s .rows)
 
   returned-held : (other money : Money)
-      → sumOver (heldBy money (s .fee)) (map (afterReturn route other) (s .rows)) + onlyIf (isMoney money other) (waiting route other s)
-      ≡ sumOver (heldBy money (s .fee)) (s .rows)
+      → sumOver (heldBy money s) (map (afterReturn route other) (s .rows)) + onlyIf (isMoney money other) (waiting route other s)
+      ≡ sumOver (heldBy money s) (s .rows)
   returned-held K K = returned-same K
   returned-held O O = returned-same O
   returned-held K O = omega (arith, returned-other K)

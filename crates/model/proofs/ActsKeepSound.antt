@@ -40,7 +40,7 @@ use Rattle.model.proofs.SoundParts.{row-fault, row-with-state, rows-lat
 -- What an act leaves of a shipment s.
 pub record Kept (s : Shipment) (outcome : Outcome) : Type 0 where
   pub in-order : InOrder (outcome .shipment)
-  pub same-name : outcome .shipment .name ≡ s .name
+  pub same-name : outcome .shipment .agreed .name ≡ s .agreed .name
   pub as-many : length (outcome .shipment .rows) ≡ length (s .rows)
 
 unchanged : (s : Shipment) (answer : Answer) → InOrder s → Kept s (leave answer s)
@@ -236,7 +236,7 @@ module _ (s : Shipment) (h : InOrder s) where
     deed-done = withState (becomes deed) (orderAt number s)
 
     order-kept : isPaired (s .stage) ≡ true → between 1 (length (s .rows)) number ≡ true → fits deed (orderAt number s .state) ≡ true
-        → Kept s (leave (says deed (s .fee) (orderAt number s)) (withRows (set (s .rows) (number - 1) deed-done) s))
+        → Kept s (leave (says deed s (orderAt number s)) (withRows (set (s .rows) (number - 1) deed-done) s))
     order-kept p within fit =
         let row = orderAt number s in
         let there = in-range (length (s .rows)) number within in
@@ -244,7 +244,7 @@ module _ (s : Shipment) (h : InOrder s) where
         rows-kept (set (s .rows) (number - 1) deed-done)
         (length-set (s .rows) (number - 1) deed-done)
         (omega (arith, sum-set amountOf (s .rows) (number - 1) deed-done noOrder there))
-        (says deed (s .fee) row)
+        (says deed s row)
         (rows-set (s .stage) (s .rows) (number - 1) deed-done (h .rows-sound)
         (row-with-state (s .stage) row was (becomes deed) p (becomes-in-range deed)))
         (faulty-set (s .rows) (number - 1) deed-done (becomes-unfaulty deed ∙ sym (fitting-unfaulty deed (row .state) fit)))

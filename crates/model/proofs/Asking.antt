@@ -35,7 +35,7 @@ intake-either P profile name file book refused accepted =
 -- a transfer is refused, or is made to the first shipment of its title's name
 pub transfer-either : (P : Step → Type 0) (title : List ℕ) (amount : ℕ) (book : Book)
     → ((number : ℕ) → P (stay (Refused number) book))
-    → P (onFirst (λ (s : Shipment). sameName (titleOf title .name) (s .name)) (transferred (titleOf title .money) amount) book)
+    → P (onFirst (λ (s : Shipment). sameName (titleOf title .name) (s .agreed .name)) (transferred (titleOf title .money) amount) book)
     → P (step book (Transfer title amount))
 unfolding step transferredIn
 transfer-either P title amount book refused accepted =

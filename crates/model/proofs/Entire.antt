@@ -12,11 +12,11 @@ use Rattle.epe.specs.Name.{titleOf}
 use Rattle.epe.specs.declared.ident.Ident.{Ident}
 use Rattle.epe.specs.declared.profile.Profile.{Profile}
 use Rattle.epe.proofs.IdentLaws.{same-is-equal}
-use Rattle.model.specs.Shipment.{Shipment, onlyIf, worth}
+use Rattle.model.specs.Shipment.{Shipment, onlyIf}
 use Rattle.model.specs.Calls.{Act, Return, Call, Intake, Transfer, On, Refused, isRefusal, Outcome, waiting, transferred, acted}
 use Rattle.model.specs.Book.{Book, Step, stay, find, step}
 use Rattle.model.specs.Moved.{moved}
-use Rattle.model.specs.Demand.{isFor, ofShipment, orderByIndex, leaves, below, ordersOf, feeOf, leftWithOrders, ordersLeaving}
+use Rattle.model.specs.Demand.{isFor, ofShipment, orderByIndex, leaves, below, ordersOf, worthOfOrder, leftWithOrders, ordersLeaving}
 use Rattle.model.specs.declared.Route.{Route}
 use Rattle.model.proofs.Asking.{intake-either, transfer-either}
 use Rattle.model.proofs.Sums.{below-none}
@@ -37,7 +37,7 @@ quiet-entire call book ident money says kept = omega (arith, says .quiet money, 
   where
     nothing : leftWithOrders money ident book call ≡ 0
     nothing =
-        let worthOf : ℕ → ℕ = λ j. worth money (feeOf (find ident book)) (orderByIndex j (find ident book)) in
+        let worthOf : ℕ → ℕ = λ j. worthOfOrder money j (find ident book) in
         below-none (ordersOf (find ident book)) (λ j. onlyIf (leaves money ident j book call) (worthOf j)) (λ j. ap (λ t. onlyIf t (worthOf j)) (kept j))
 
 refusal : (call : Call) (book : Book) (number : ℕ) → Quiet call (stay (Refused number) book)
@@ -64,7 +64,7 @@ module _ (ident : Ident) (act : Act) where
       → moved (On ident act) (answered (acted act) found) .goesOut money
       ≡ below (ordersOf found)
       (λ j. onlyIf (moved (On ident act) (answered (acted act) found) .takes money j (orderByIndex j found) (orderByIndex j (after (acted act) found)))
-      (worth money (feeOf found) (orderByIndex j found)))
+      (worthOfOrder money j found))
       + moved (On ident act) (answered (acted act) found) .surplus money
   found-entire money none = refl
   found-entire money (some s) = acted-leaves ident act s .entire money

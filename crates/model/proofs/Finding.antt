@@ -40,7 +40,7 @@ found-answer does ident (s ∷ book) =
     let rest = found-answer does ident book in
     either-way (isCalled ident s) (λ here. rw here) (λ further. rw further rest)
 
-module _ (does : Shipment → Outcome) (named : (s : Shipment) → does s .shipment .name ≡ s .name) where
+module _ (does : Shipment → Outcome) (named : (s : Shipment) → does s .shipment .agreed .name ≡ s .agreed .name) where
   called-still : (ident : Ident) (s : Shipment) → isCalled ident (does s .shipment) ≡ isCalled ident s
   called-still ident s = ap (λ (name : Name). sameIdent ident (name .ident)) (named s)
 

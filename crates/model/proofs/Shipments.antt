@@ -38,7 +38,7 @@ abbrev pub amountOf : Row → ℕ
 amountOf row = row .amount .0
 
 module _ (money : Money) (s t : Shipment) where
-  pub same-need : t .fee ≡ s .fee → length (t .rows) ≡ length (s .rows)
+  pub same-need : t .agreed .fee ≡ s .agreed .fee → length (t .rows) ≡ length (s .rows)
       → sumOver amountOf (t .rows) ≡ sumOver amountOf (s .rows) → need money t ≡ need money s
   unfolding need
   same-need fees counts sums = by money

@@ -40,8 +40,8 @@ pub record MoneyInOrder (money : Money) (s : Shipment) : Type 0 where
   pub unreturned : isWaiting (s .stage) ≡ true → returned money s ≡ 0
 
 pub record InOrder (s : Shipment) : Type 0 where
-  pub name-in-form : nameInForm (s .name) ≡ true
-  pub fee-fits : s .fee ≤ orderCap
+  pub name-in-form : nameInForm (s .agreed .name) ≡ true
+  pub fee-fits : s .agreed .fee ≤ orderCap
   pub an-order : 1 ≤ length (s .rows)
   pub rows-sound : rowsSound (s .stage) (s .rows) ≡ true
   pub go-ahead-with-faults : s .goAhead ≡ true → anyFaulty (s .rows) ≡ true
@@ -78,7 +78,7 @@ in-order s h =
     let paired = isPaired (s .stage) in
     record {
       name-in-form = search halves;
-      fee-fits = leb-true (s .fee) orderCap (search halves);
+      fee-fits = leb-true (s .agreed .fee) orderCap (search halves);
       an-order = leb-true 1 (length (s .rows)) (search halves);
       rows-sound = search halves;
       go-ahead-with-faults = where-first (s .goAhead) faulty (search halves);
@@ -96,7 +96,7 @@ shipment-sound s h =
     let faulty = anyFaulty (s .rows) in
     let paired = isPaired (s .stage) in
     both-yes _ _ (h .name-in-form)
-    (both-yes _ _ (le-leb (s .fee) orderCap (h .fee-fits))
+    (both-yes _ _ (le-leb (s .agreed .fee) orderCap (h .fee-fits))
     (both-yes _ _ (le-leb 1 (length (s .rows)) (h .an-order))
     (both-yes _ _ (h .rows-sound)
     (both-yes _ _ (holds-where-first (s .goAhead) faulty (h .go-ahead-with-faults))

@@ -29,7 +29,7 @@ use Rattle.epe.specs.declared.verdict.Verdict.the-variants.{Passed}
 use Rattle.epe.proofs.AcceptedAsStated.{accepted-as-stated}
 use Rattle.epe.proofs.NameLaws.{parts-in-form}
 use Rattle.epe.proofs.QuestionLaws.{asked-either, all-yes, all-yes-passed, yes-before, yes-behind}
-use Rattle.model.specs.Shipment.{Shipment}
+use Rattle.model.specs.Shipment.{mostShipments, mostRows, Shipment}
 use Rattle.model.specs.Calls.{Call, Intake, Transfer, On, Refused, Outcome, transferred, acted}
 use Rattle.model.specs.Book.{feeFor, Book, Step, stay, refusingIn, onFirst, isCalled, isUnknown, rowsIn}
 use Rattle.model.specs.Book.{enteredRow, entered, intakeQuestions, takenIn, step}
@@ -45,25 +45,25 @@ use Rattle.model.proofs.ActsKeepSound.{Kept, transferred-kept, acted-ke
 
 -- The parts of a sound book, and of one with a first shipment.
 record BookInOrder (book : Book) : Type 0 where
-  few : length book ≤ 32
-  rows-fit : rowsIn book ≤ 2048
+  few : length book ≤ mostShipments
+  rows-fit : rowsIn book ≤ mostRows
   shipments : shipmentsSound book ≡ true
 
 book-in-order : (book : Book) → sound book ≡ true → BookInOrder book
 unfolding sound
 book-in-order book h = record {
-  few = leb-true (length book) 32 (search halves);
-  rows-fit = leb-true (rowsIn book) 2048 (search halves);
+  few = leb-true (length book) mostShipments (search halves);
+  rows-fit = leb-true (rowsIn book) mostRows (search halves);
   shipments = search halves;
 }
 
 book-sound : (book : Book) → BookInOrder book → sound book ≡ true
 unfolding sound
-book-sound book h = both-yes _ _ (le-leb (length book) 32 (h .few)) (both-yes _ _ (le-leb (rowsIn book) 2048 (h .rows-fit)) (h .shipments))
+book-sound book h = both-yes _ _ (le-leb (length book) mostShipments (h .few)) (both-yes _ _ (le-leb (rowsIn book) mostRows (h .rows-fit)) (h .shipments))
 
 record FirstInOrder (s : Shipment) (book : Book) : Type 0 where
   first : shipmentSound s ≡ true
-  known-once : isUnknown (s .name .ident) book ≡ true
+  known-once : isUnknown (s .agreed .name .ident) book ≡ true
   rest : shipmentsSound book ≡ true
 
 first-in-order : (s : Shipment) (book : Book) → shipmentsSound (s ∷ book) ≡ true → FirstInOrder s book
@@ -105,7 +105,7 @@ module _ (is : Shipment → Bool) (does : Shipment → Outcome) (keeps : (s : Sh
       (λ e. record {
         shipments = first-sound s (onFirst is does book .book) (record {
           first = parts .first;
-          known-once = r .same-known (s .name .ident) ∙ parts .known-once;
+          known-once = r .same-known (s .agreed .name .ident) ∙ parts .known-once;
           rest = r .shipments;
         });
         as-many = ap suc (r .as-many);
@@ -172,15 +172,15 @@ entered-in-order profile name orders fits formed some ranged = record {
 }
 
 -- a shipment behind a book in which its identifier was unknown
-shipments-behind : (book : Book) (s : Shipment) → shipmentsSound book ≡ true → shipmentSound s ≡ true → isUnknown (s .name .ident) book ≡ true
+shipments-behind : (book : Book) (s : Shipment) → shipmentsSound book ≡ true → shipmentSound s ≡ true → isUnknown (s .agreed .name .ident) book ≡ true
     → shipmentsSound (book ++ (s ∷ [])) ≡ true
 shipments-behind [] s h k e = first-sound s [] (record { first = k; known-once = refl; rest = h })
 shipments-behind (x ∷ book) s h k e =
     let parts = first-in-order x book h in
-    let ident = s .name .ident in
+    let ident = s .agreed .name .ident in
     first-sound x (book ++ (s ∷ [])) (record {
       first = parts .first;
-      known-once = append-unknown (x .name .ident) book s (parts .known-once) (same-back ident (x .name .ident) (unknown-first ident x book e));
+      known-once = append-unknown (x .agreed .name .ident) book s (parts .known-once) (same-back ident (x .agreed .name .ident) (unknown-first ident x book e));
       rest = shipments-behind book s (parts .rest) k (unknown-rest ident x book e);
     })
 
@@ -208,7 +208,7 @@ module _ (book : Book) (h : sound book ≡ true) where
         });
       }
 
-  behind : (s : Shipment) → InOrder s → isUnknown (s .name .ident) book ≡ true → length book < 32 → rowsIn book + length (s .rows) ≤ 2048
+  behind : (s : Shipment) → InOrder s → isUnknown (s .agreed .name .ident) book ≡ true → length book < mostShipments → rowsIn book + length (s .rows) ≤ mostRows
       → sound (book ++ (s ∷ [])) ≡ true
   behind s k unknown few rows =
       let b = book-in-order book h in
@@ -219,7 +219,7 @@ module _ (book : Book) (h : sound book ≡ true) where
       })
 
   entered-behind : (profile : Profile) (name : Name) (orders : List Order) → InOrder (entered profile name orders) → isUnknown (name .ident) book ≡ true
-      → length book < 32 → rowsIn book + length orders ≤ 2048 → sound (book ++ (entered profile name orders ∷ [])) ≡ true
+      → length book < mostShipments → rowsIn book + length orders ≤ mostRows → sound (book ++ (entered profile name orders ∷ [])) ≡ true
   unfolding entered
   entered-behind profile name orders k unknown few rows = behind (entered profile name orders) k unknown few (omega (arith, length-map orders enteredRow))
 
@@ -238,12 +238,12 @@ module _ (book : Book) (h : sound book ≡ true) where
       })
     where
       new : profileFits profile ≡ true → opening name file ≡ Passed → isUnknown (nameOf name .ident) book ≡ true → contents profile file ≡ Passed
-          → ltb (length book) 32 ≡ true → leb (rowsIn book + length (orders file)) 2048 ≡ true → sound (book ++ (entered profile (nameOf name) (orders file) ∷ [])) ≡ true
+          → ltb (length book) mostShipments ≡ true → leb (rowsIn book + length (orders file)) mostRows ≡ true → sound (book ++ (entered profile (nameOf name) (orders file) ∷ [])) ≡ true
       new fits opened unknown passed few rows =
           let stated = accepted-as-stated profile file passed in
           entered-behind profile (nameOf name) (orders file)
           (entered-in-order profile (nameOf name) (orders file) fits (opened-in-form name file opened) (stated .at-least-one) (stated .in-range))
-          unknown (ltb-true (length book) 32 few) (leb-true (rowsIn book + length (orders file)) 2048 rows)
+          unknown (ltb-true (length book) mostShipments few) (leb-true (rowsIn book + length (orders file)) mostRows rows)
 
   transferred-in : (title : List ℕ) (amount : ℕ) → Left (step book (Transfer title amount))
   transferred-in title amount =

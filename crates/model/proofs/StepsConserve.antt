@@ -33,7 +33,7 @@ use Rattle.model.proofs.ActsConserve.{Balanced, balanced, Fair, transfe
 -- What conservation needs of a book: each shipment is balanced, and identifiers are all different.
 abbrev pub BookKept : Book → Type 0
 BookKept [] = Unit {0}
-BookKept (s ∷ book) = Balanced s × ((isUnknown (s .name .ident) book ≡ true) × BookKept book)
+BookKept (s ∷ book) = Balanced s × ((isUnknown (s .agreed .name .ident) book ≡ true) × BookKept book)
 
 -- a sound book has them
 pub book-kept : (book : Book) → sound book ≡ true → BookKept book
@@ -146,7 +146,7 @@ module _
       cond-either (λ next. find other (next .book) ≡ find other (s ∷ book)) (is s) (taking s book) (passing s book)
       (λ e.
       let name = fair s (kept .0) .name in
-      let uncalled : isCalled other s ≡ false = ap (sameIdent other) (sym (same-is-equal ident (s .name .ident) .0 (only s e))) ∙ apart in
+      let uncalled : isCalled other s ≡ false = ap (sameIdent other) (sym (same-is-equal ident (s .agreed .name .ident) .0 (only s e))) ∙ apart in
       passed other (does s .shipment) book (ap (λ n. sameIdent other (n .ident)) name ∙ uncalled) ∙ sym (passed other s book uncalled))
       (λ e. ap (cond (isCalled other s) (some s)) (first-others other apart book (kept .1 .1)))
 
@@ -173,7 +173,7 @@ module _
       (f .conserves money, f .grows money))
       (λ e. either-way (isCalled ident s)
       (λ called.
-      let unknown = ap (λ name. isUnknown name book) (same-is-equal ident (s .name .ident) .0 called) ∙ kept .1 .0 in
+      let unknown = ap (λ name. isUnknown name book) (same-is-equal ident (s .agreed .name .ident) .0 called) ∙ kept .1 .0 in
       unmoved money call (onFirst is does book .answer) 13 ident s book (onFirst is does book .book) called (first-none book unknown))
       (λ uncalled.
       moved-behind money call (onFirst is does book .answer) ident s book (onFirst is does book .book) uncalled (first-moves money book (kept .1 .1))))
@@ -205,26 +205,26 @@ module _ (profile : Profile) (name : Name) (orders : List Order) where
 -- a shipment whose identifier the book does not know is entered behind the last
 module _ (call : Call) (book : Book) (s : Shipment) where
   append-fair : (n m : ℕ)
-      → isUnknown (s .name .ident) book ≡ true
-      → ((other : Ident) → isFor other call ≡ sameIdent other (s .name .ident))
+      → isUnknown (s .agreed .name .ident) book ≡ true
+      → ((other : Ident) → isFor other call ≡ sameIdent other (s .agreed .name .ident))
       → ((money : Money) → held money s + free money s ≡ 0)
       → ((money : Money) → accepted money s ≡ 0)
       → StepFair book call (stay (Accepted n m) (book ++ (s ∷ [])))
   append-fair n m unknown is-for empty unfunded = record {
     refused = λ e. absurd (false≢true e);
     others = λ other e. others other (sym (is-for other) ∙ e);
-    conserves = step-conserves book call (s .name .ident) is-for (stay (Accepted n m) (book ++ (s ∷ []))) others moves;
-    grows = step-grows book call (s .name .ident) is-for (stay (Accepted n m) (book ++ (s ∷ []))) others moves;
+    conserves = step-conserves book call (s .agreed .name .ident) is-for (stay (Accepted n m) (book ++ (s ∷ []))) others moves;
+    grows = step-grows book call (s .agreed .name .ident) is-for (stay (Accepted n m) (book ++ (s ∷ []))) others moves;
   }
     where
-      others : (other : Ident) → sameIdent other (s .name .ident) ≡ false → find other (book ++ (s ∷ [])) ≡ find other book
+      others : (other : Ident) → sameIdent other (s .agreed .name .ident) ≡ false → find other (book ++ (s ∷ [])) ≡ find other book
       others other apart = append-other other book s apart
 
-      moves : (money : Money) → Moves money call (Accepted n m) (find (s .name .ident) book) (find (s .name .ident) (book ++ (s ∷ [])))
+      moves : (money : Money) → Moves money call (Accepted n m) (find (s .agreed .name .ident) book) (find (s .agreed .name .ident) (book ++ (s ∷ [])))
       moves money =
           subst₂ (Moves money call (Accepted n m))
-          (sym (unknown-none (s .name .ident) book unknown))
-          (sym (append-new (s .name .ident) book s (same-is-equal (s .name .ident) (s .name .ident) .1 refl) unknown))
+          (sym (unknown-none (s .agreed .name .ident) book unknown))
+          (sym (append-new (s .agreed .name .ident) book s (same-is-equal (s .agreed .name .ident) (s .agreed .name .ident) .1 refl) unknown))
           (omega (arith, empty money), omega (arith, unfunded money))
 
 -- an intake is refused, or enters a shipment
@@ -244,8 +244,8 @@ transferred-in-fair title amount book kept =
     let call = Transfer title amount in
     let name = titleOf title .name in
     transfer-either (StepFair book call) title amount book (refused-fair book call)
-    (first-fair call (name .ident) (λ s. sameName name (s .name)) (transferred (titleOf title .money) amount)
-    (λ s. and-left (sameIdent (name .ident) (s .name .ident)) _)
+    (first-fair call (name .ident) (λ s. sameName name (s .agreed .name)) (transferred (titleOf title .money) amount)
+    (λ s. and-left (sameIdent (name .ident) (s .agreed .name .ident)) _)
     (λ s balanced. transferred-fair s balanced amount title)
     (λ other. refl) book kept)
 

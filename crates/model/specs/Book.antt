@@ -16,7 +16,7 @@ use Rattle.epe.specs.declared.ident.Ident.{Ident}
 use Rattle.epe.specs.declared.name.Name.{Name}
 use Rattle.epe.specs.declared.profile.Profile.{Profile}
 use Rattle.epe.specs.declared.record.Order.{Order}
-use Rattle.model.specs.Shipment.{mostShipments, mostRows, Shipment, sumOver}
+use Rattle.model.specs.Shipment.{mostShipments, mostRows, noSums, Shipment, sumOver}
 use Rattle.model.specs.Calls.{Call, Intake, Transfer, On, Answer, Refused, Accepted, Outcome, transferred, acted}
 use Rattle.model.specs.declared.Row.{Row}
 use Rattle.model.specs.declared.Stage.the-variants.{Waiting}
@@ -46,7 +46,7 @@ onFirst is does (s ∷ book) =
     (record { book = s ∷ onFirst is does book .book; answer = onFirst is does book .answer })
 
 abbrev pub isCalled : Ident → Shipment → Bool
-isCalled ident s = sameIdent ident (s .name .ident)
+isCalled ident s = sameIdent ident (s .agreed .name .ident)
 
 -- "Name in the book" compares the whole name: identifier, date, A or B, and kind.
 unfoldable pub sameName : Name → Name → Bool
@@ -71,14 +71,11 @@ enteredRow order = record { amount = order .amount; state = cond (eqb (order .fa
 
 abbrev pub newShipment : Name → ℕ → List Row → Shipment
 newShipment name fee rows = record {
-  name = name;
-  fee = fee;
+  agreed = record { name = name; fee = fee };
   stage = Waiting;
   goAhead = false;
-  acceptedK = 0;
-  acceptedO = 0;
-  returnedK = 0;
-  returnedO = 0;
+  acceptedSums = noSums;
+  returnedSums = noSums;
   rows = rows;
 }
 
@@ -112,7 +109,7 @@ takenIn profile name file book =
 unfoldable pub transferredIn : List ℕ → ℕ → Book → Step
 transferredIn title amount book =
     asked (titleQuestions title ++ ((isTransfer amount elseNo 12) ∷ [])) (refusingIn book)
-    (onFirst (λ (s : Shipment). sameName (titleOf title .name) (s .name)) (transferred (titleOf title .money) amount) book)
+    (onFirst (λ (s : Shipment). sameName (titleOf title .name) (s .agreed .name)) (transferred (titleOf title .money) amount) book)
 
 unfoldable pub step : Book → Call → Step
 step book (Intake profile name file) = takenIn profile name file book

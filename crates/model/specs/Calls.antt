@@ -11,7 +11,7 @@ use Rattle.money.specs.declared.Money.the-variants.{K, O}
 use Rattle.epe.specs.Questions.{Question, _elseNo_, asked}
 use Rattle.epe.specs.declared.ident.Ident.{Ident}
 use Rattle.epe.specs.declared.profile.Profile.{Profile}
-use Rattle.model.specs.Shipment.{byMoney, Shipment, accepted, isWaiting, isPaired, onlyIf, sumOver, isOpen, isPosted, isFaulty, isUndelivered, isWithdrawn}
+use Rattle.model.specs.Shipment.{byMoney, plusIn, Shipment, accepted, isWaiting, isPaired, onlyIf, sumOver, isOpen, isPosted, isFaulty, isUndelivered, isWithdrawn}
 use Rattle.model.specs.Shipment.{waits, worth, need, free, anyFaulty}
 use Rattle.model.specs.declared.Deed.{Deed}
 use Rattle.model.specs.declared.Deed.the-variants.{Post, Pay, MarkUndelivered, Withdraw}
@@ -83,66 +83,51 @@ refusing s number = leave (Refused number) s
 -- A shipment with one thing changed.
 abbrev pub withStage : Stage → Shipment → Shipment
 withStage stage s = record {
-  name = s .name;
-  fee = s .fee;
+  agreed = s .agreed;
   stage = stage;
   goAhead = s .goAhead;
-  acceptedK = s .acceptedK;
-  acceptedO = s .acceptedO;
-  returnedK = s .returnedK;
-  returnedO = s .returnedO;
+  acceptedSums = s .acceptedSums;
+  returnedSums = s .returnedSums;
   rows = s .rows;
 }
 
 abbrev pub withGoAhead : Shipment → Shipment
 withGoAhead s = record {
-  name = s .name;
-  fee = s .fee;
+  agreed = s .agreed;
   stage = s .stage;
   goAhead = true;
-  acceptedK = s .acceptedK;
-  acceptedO = s .acceptedO;
-  returnedK = s .returnedK;
-  returnedO = s .returnedO;
+  acceptedSums = s .acceptedSums;
+  returnedSums = s .returnedSums;
   rows = s .rows;
 }
 
 abbrev pub withAccepted : Money → ℕ → Shipment → Shipment
 withAccepted money n s = record {
-  name = s .name;
-  fee = s .fee;
+  agreed = s .agreed;
   stage = s .stage;
   goAhead = s .goAhead;
-  acceptedK = s .acceptedK + byMoney money n 0;
-  acceptedO = s .acceptedO + byMoney money 0 n;
-  returnedK = s .returnedK;
-  returnedO = s .returnedO;
+  acceptedSums = plusIn money n (s .acceptedSums);
+  returnedSums = s .returnedSums;
   rows = s .rows;
 }
 
 abbrev pub withReturned : Money → ℕ → Shipment → Shipment
 withReturned money n s = record {
-  name = s .name;
-  fee = s .fee;
+  agreed = s .agreed;
   stage = s .stage;
   goAhead = s .goAhead;
-  acceptedK = s .acceptedK;
-  acceptedO = s .acceptedO;
-  returnedK = s .returnedK + byMoney money n 0;
-  returnedO = s .returnedO + byMoney money 0 n;
+  acceptedSums = s .acceptedSums;
+  returnedSums = plusIn money n (s .returnedSums);
   rows = s .rows;
 }
 
 abbrev pub withRows : List Row → Shipment → Shipment
 withRows rows s = record {
-  name = s .name;
-  fee = s .fee;
+  agreed = s .agreed;
   stage = s .stage;
   goAhead = s .goAhead;
-  acceptedK = s .acceptedK;
-  acceptedO = s .acceptedO;
-  returnedK = s .returnedK;
-  returnedO = s .returnedO;
+  acceptedSums = s .acceptedSums;
+  returnedSums = s .returnedSums;
   rows = rows;
 }
 
@@ -190,11 +175,11 @@ becomes Pay = Paid
 becomes MarkUndelivered = Undelivered true
 becomes Withdraw = Withdrawn true true
 
-abbrev pub says : Deed → ℕ → Row → Answer
-says Post fee row = FeeEarned fee
-says Pay fee row = AmountPaid (row .amount .0)
-says MarkUndelivered fee row = Done
-says Withdraw fee row = Done
+abbrev pub says : Deed → Shipment → Row → Answer
+says Post s row = FeeEarned (worth O s row)
+says Pay s row = AmountPaid (worth K s row)
+says MarkUndelivered s row = Done
+says Withdraw s row = Done
 
 -- Order n of a shipment, counted from 1.
 abbrev pub noOrder : Row
@@ -211,7 +196,7 @@ onOrder deed number s =
     ∷ (between 1 (length (s .rows)) number elseNo 20)
     ∷ (fits deed (orderAt number s .state) elseNo 21)
     ∷ []) (refusing s)
-    (leave (says deed (s .fee) (orderAt number s)) (withRows (set (s .rows) (number - 1) (withState (becomes deed) (orderAt number s))) s))
+    (leave (says deed s (orderAt number s)) (withRows (set (s .rows) (number - 1) (withState (becomes deed) (orderAt number s))) s))
 
 -- "OPR, ZPR, ZZR return all that waits in Faulty, Undelivered, Withdrawn orders, ..": whether a money of an order waits on a route.
 abbrev pub takes : Route → State → Bool
@@ -237,7 +222,7 @@ afterReturn route money row = cond (waitsOn route money row) (withState (cleared
 
 -- What waits on a route, and in how many orders.
 unfoldable pub waiting : Route → Money → Shipment → ℕ
-waiting route money s = sumOver (λ (row : Row). onlyIf (waitsOn route money row) (worth money (s .fee) row)) (s .rows)
+waiting route money s = sumOver (λ (row : Row). onlyIf (waitsOn route money row) (worth money s row)) (s .rows)
 
 unfoldable pub waitingOrders : Route → Money → Shipment → ℕ
 waitingOrders route money s = sumOver (λ (row : Row). onlyIf (waitsOn route money row) 1) (s .rows)

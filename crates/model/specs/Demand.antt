@@ -98,14 +98,14 @@ abbrev pub ordersOf : Option Shipment → ℕ
 ordersOf none = 0
 ordersOf (some s) = length (s .rows)
 
-abbrev pub feeOf : Option Shipment → ℕ
-feeOf none = 0
-feeOf (some s) = s .fee
+abbrev pub worthOfOrder : Money → ℕ → Option Shipment → ℕ
+worthOfOrder money j none = 0
+worthOfOrder money j (some s) = worth money s (orderByIndex j (some s))
 
 abbrev pub leftWithOrders : Money → Ident → Book → Call → ℕ
 leftWithOrders money ident book call =
     below (ordersOf (find ident book))
-    (λ j. onlyIf (leaves money ident j book call) (worth money (feeOf (find ident book)) (orderByIndex j (find ident book))))
+    (λ j. onlyIf (leaves money ident j book call) (worthOfOrder money j (find ident book)))
 
 abbrev pub ordersLeaving : Money → Ident → Book → Call → ℕ
 ordersLeaving money ident book call = below (ordersOf (find ident book)) (λ j. onlyIf (leaves money ident j book call) 1)

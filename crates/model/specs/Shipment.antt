@@ -24,24 +24,41 @@ abbrev pub byMoney {ℓ} : {A : Type ℓ} → Money → A → A → A
 byMoney K k o = k
 byMoney O k o = o
 
+-- ".. its name parts, fee F (the profile's for its kind) ..": what intake fixes.
+pub record Agreed : Type 0 where
+  pub name : Name
+  pub fee : ℕ
+
+-- A sum of K, and one of O.
+pub record PerMoney : Type 0 where
+  pub k : ℕ
+  pub o : ℕ
+
+abbrev pub inMoney : Money → PerMoney → ℕ
+inMoney money sums = byMoney money (sums .k) (sums .o)
+
+abbrev pub noSums : PerMoney
+noSums = record { k = 0; o = 0 }
+
+-- n more of a money.
+abbrev pub plusIn : Money → ℕ → PerMoney → PerMoney
+plusIn money n sums = record { k = sums .k + byMoney money n 0; o = sums .o + byMoney money 0 n }
+
 -- "A shipment has its name parts, fee F (the profile's for its kind), stage Waiting, Paired or Closed, whether a go-ahead (OBS) came,
 -- transfers accepted per money, and surplus returned per money." And its orders, in the order of the file.
 pub record Shipment : Type 0 where
-  pub name : Name
-  pub fee : ℕ
+  pub agreed : Agreed
   pub stage : Stage
   pub goAhead : Bool
-  pub acceptedK : ℕ
-  pub acceptedO : ℕ
-  pub returnedK : ℕ
-  pub returnedO : ℕ
+  pub acceptedSums : PerMoney
+  pub returnedSums : PerMoney
   pub rows : List Row
 
 abbrev pub accepted : Money → Shipment → ℕ
-accepted money s = byMoney money (s .acceptedK) (s .acceptedO)
+accepted money s = inMoney money (s .acceptedSums)
 
 abbrev pub returned : Money → Shipment → ℕ
-returned money s = byMoney money (s .returnedK) (s .returnedO)
+returned money s = inMoney money (s .returnedSums)
 
 abbrev pub isWaiting : Stage → Bool
 isWaiting Waiting = true
@@ -112,14 +129,14 @@ waits money (Faulty fault k o) = byMoney money k o
 waits money (Undelivered k) = byMoney money k false
 waits money (Withdrawn k o) = byMoney money k o
 
--- What an order is worth: its amount in K, F in O.
-abbrev pub worth : Money → ℕ → Row → ℕ
-worth money fee row = byMoney money (row .amount .0) fee
+-- What an order of a shipment is worth: its amount in K, F in O.
+abbrev pub worth : Money → Shipment → Row → ℕ
+worth money s row = byMoney money (row .amount .0) (s .agreed .fee)
 
 -- "Need: K is the sum of all amounts, faulty ones too; O is order count times F."
 unfoldable pub need : Money → Shipment → ℕ
 need K s = sumOver (λ (row : Row). row .amount .0) (s .rows)
-need O s = length (s .rows) * s .fee
+need O s = length (s .rows) * s .agreed .fee
 
 abbrev pub needOncePaired : Money → Shipment → ℕ
 needOncePaired money s = onlyIf (isPaired (s .stage)) (need money s)
@@ -135,7 +152,7 @@ holds O state = isOpen state || waits O state
 
 -- "In other stages orders hold nothing."
 unfoldable pub held : Money → Shipment → ℕ
-held money s = onlyIf (isPaired (s .stage)) (sumOver (λ (row : Row). onlyIf (holds money (row .state)) (worth money (s .fee) row)) (s .rows))
+held money s = onlyIf (isPaired (s .stage)) (sumOver (λ (row : Row). onlyIf (holds money (row .state)) (worth money s row)) (s .rows))
 
 unfoldable pub anyFaulty : List Row → Bool
 anyFaulty [] = false

@@ -59,8 +59,8 @@ moneySound money s =
 
 unfoldable pub shipmentSound : Shipment → Bool
 shipmentSound s =
-    nameInForm (s .name)
-    && (isOrderFee (s .fee)
+    nameInForm (s .agreed .name)
+    && (isOrderFee (s .agreed .fee)
     && (leb 1 (length (s .rows))
     && (rowsSound (s .stage) (s .rows)
     && ((not (s .goAhead) || anyFaulty (s .rows))
@@ -69,7 +69,7 @@ shipmentSound s =
 
 unfoldable pub shipmentsSound : Book → Bool
 shipmentsSound [] = true
-shipmentsSound (s ∷ book) = shipmentSound s && (isUnknown (s .name .ident) book && shipmentsSound book)
+shipmentsSound (s ∷ book) = shipmentSound s && (isUnknown (s .agreed .name .ident) book && shipmentsSound book)
 
 -- ".. up to 32 shipments ..", and 2,048 rows in all.
 unfoldable pub sound : Book → Bool

@@ -38,12 +38,12 @@ shared O (Withdrawn k true) n = omega arith
 shared O (Withdrawn k false) n = omega arith
 
 -- the worth of all orders is the need
-all-needed : (money : Money) (s : Shipment) → sumOver (λ (row : Row). worth money (s .fee) row) (s .rows) ≡ need money s
+all-needed : (money : Money) (s : Shipment) → sumOver (λ (row : Row). worth money s row) (s .rows) ≡ need money s
 unfolding need
 all-needed K s = refl
 all-needed O s = go (s .rows)
   where
-    go : (rows : List Row) → sumOver (λ (row : Row). s .fee) rows ≡ length rows * s .fee
+    go : (rows : List Row) → sumOver (λ (row : Row). s .agreed .fee) rows ≡ length rows * s .agreed .fee
     go [] = omega arith
     go (row ∷ rows) = let rest = go rows in omega arith
 
@@ -64,14 +64,14 @@ none-out O (Withdrawn k o) n h = absurd (false≢true h)
 
 module _ (money : Money) (s : Shipment) where
   abbrev those : (State → Bool) → Row → ℕ
-  those test row = onlyIf (test (row .state)) (worth money (s .fee) row)
+  those test row = onlyIf (test (row .state)) (worth money s row)
 
   shared-all : (rows : List Row)
       → sumOver (those (holds money)) rows + sumOver (those (isOut money)) rows + sumOver (those (waitsNoMore money)) rows
-      ≡ sumOver (λ (row : Row). worth money (s .fee) row) rows
+      ≡ sumOver (λ (row : Row). worth money s row) rows
   shared-all [] = refl
   shared-all (row ∷ rows) =
-      let here = shared money (row .state) (worth money (s .fee) row) in
+      let here = shared money (row .state) (worth money s row) in
       let rest = shared-all rows in
       omega arith
 
@@ -88,7 +88,7 @@ module _ (money : Money) (s : Shipment) where
   none-out-of-all unpaired (row ∷ rows) h =
       omega (
         arith,
-        none-out money (row .state) (worth money (s .fee) row) (row-before row unpaired (search halves)),
+        none-out money (row .state) (worth money s row) (row-before row unpaired (search halves)),
         none-out-of-all unpaired rows (search halves),
       )
 

@@ -42,11 +42,11 @@ holders-few (row ∷ rows) = by (holds O (row .state)) (holders-few rows)
 -- the parts of a shipment are its need and what it holds
 module _ (s : Shipment) {parts : Parts} (are : parts ≡ partsOncePaired s) where
   parts-when : (paired : Bool) → isPaired (s .stage) ≡ paired → (parts .amounts .0 ≡ needOncePaired K s) × (parts .held .0 ≡ held K s)
-      × (parts .orders * s .fee ≡ needOncePaired O s) × (parts .holders * s .fee ≡ held O s)
+      × (parts .orders * s .agreed .fee ≡ needOncePaired O s) × (parts .holders * s .agreed .fee ≡ held O s)
   unfolding partsOncePaired need held
   parts-when true paired =
       let those : parts ≡ partsOf (s .rows) = are ∙ ap (λ t. cond t (partsOf (s .rows)) noParts) paired in
-      rw (paired, those) (refl, refl, refl, fees-held-in (s .fee) (s .rows))
+      rw (paired, those) (refl, refl, refl, fees-held-in (s .agreed .fee) (s .rows))
   parts-when false unpaired =
       let none : parts ≡ noParts = are ∙ ap (λ t. cond t (partsOf (s .rows)) noParts) unpaired in
       rw (unpaired, none) (refl, refl, omega arith, omega arith)
@@ -57,7 +57,7 @@ module _ (s : Shipment) {parts : Parts} (are : parts ≡ partsOncePaired s) wher
   pub amounts-held : parts .held .0 ≡ held K s
   amounts-held = parts-when (isPaired (s .stage)) refl .1
 
-  module _ {fee : ℕ} (fee-known : fee ≡ s .fee) where
+  module _ {fee : ℕ} (fee-known : fee ≡ s .agreed .fee) where
     pub fees-needed : parts .orders * fee ≡ needOncePaired O s
     fees-needed = ap (λ f. parts .orders * f) fee-known ∙ parts-when (isPaired (s .stage)) refl .2
 

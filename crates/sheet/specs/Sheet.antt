@@ -49,7 +49,7 @@ waitsNoMore money state = canWait money state && not (waits money state)
 
 -- What the orders that pass a test are worth.
 abbrev pub worthWhere : (State → Bool) → Money → Shipment → ℕ
-worthWhere test money s = sumOver (λ (row : Row). onlyIf (test (row .state)) (worth money (s .fee) row)) (s .rows)
+worthWhere test money s = sumOver (λ (row : Row). onlyIf (test (row .state)) (worth money s row)) (s .rows)
 
 -- ".. in a Paired shipment .., plus K surplus returned .., plus O surplus returned."
 unfoldable pub left : Money → Shipment → ℕ
@@ -63,7 +63,7 @@ abbrev pub feesOf : Shipment → Fees
 feesOf s = record { accepted = fee (accepted O s); held = fee (held O s); free = fee (free O s); left = fee (left O s) }
 
 unfoldable pub rowFor : Shipment → SheetRow
-rowFor s = record { ident = s .name .ident; amounts = amountsOf s; fees = feesOf s }
+rowFor s = record { ident = s .agreed .name .ident; amounts = amountsOf s; fees = feesOf s }
 
 -- "It adds each row's eight sums to a lent record of totals."
 abbrev pub plusAmounts : Amounts → Amounts → Amounts

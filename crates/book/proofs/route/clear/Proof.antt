@@ -1,27 +1,40 @@
 -- `book::route::clear` clears row after row, and counts each wait once.
-use mathlib.Core.Path.{_≡_}
+use mathlib.Core.Path.{_≡_, ap, _∙_}
 use Prim.Native.Nat.{_-_, _*_, _^_, _≤_}
 use native.Mathlib.Omega.{arith}
+use Rattle.money.specs.declared.Fee.{Fee}
+use Rattle.model.specs.Shipment.{Shipment}
 use Rattle.model.specs.declared.Route.{Route}
+use Rattle.memory.specs.Read.{shipmentAt}
 use Rattle.memory.specs.Returns.{WaitTable}
-use Rattle.book.proofs.Returns.{Clearing, none-cleared, one-more-cleared, worth-is, all-cleared}
+use Rattle.book.specs.Waits.{IsFeeOf}
+use Rattle.book.proofs.Returns.{Clearing, none-cleared, one-more-cleared, worth-is, all-cleared, is-fee-of, count-at}
 use borrow.Author.Needs.{needs}
 use Rattle.book.proofs.route.clear.Statement.{statement}
 use Rattle.book.proofs.route.clear.Tie as tie
 
 abbrev Inv-loop : tie.InvT-loop
-Inv-loop memory₀ k n money fee table taken₀ done₀ memory taken done =
-    ((route : Route) → WaitTable route money table → Clearing route money (fee .0) k done memory₀ memory taken)
+Inv-loop memory₀ i k money n fee table taken₀ done₀ memory taken done =
+    ((route : Route) (s : Shipment) → WaitTable route money table → IsFeeOf s fee → Clearing route money s k done memory₀ memory taken)
     × (done ≤ n) × (taken .worth ≤ done * 2 ^ 34) × (taken .count ≤ done * 2)
 
 abbrev μ-loop : tie.MeasureT-loop
-μ-loop memory₀ k n money fee table taken₀ done₀ memory taken done = n - done
+μ-loop memory₀ i k money n fee table taken₀ done₀ memory taken done = n - done
+
+head-bytes-requires : tie.Need-head-bytes-requires Inv-loop μ-loop
+head-bytes-requires c κs = search needs
+
+orders-requires : tie.Need-orders-requires Inv-loop μ-loop
+orders-requires c κs = search needs
+
+fee-requires : tie.Need-fee-requires Inv-loop μ-loop
+fee-requires c κs = search needs
 
 wait-table-requires : tie.Need-wait-table-requires Inv-loop μ-loop
 wait-table-requires c κs = search needs
 
 loop-holds : tie.Need-loop-holds Inv-loop μ-loop
-loop-holds c = (λ route is. none-cleared, omega arith, omega arith, omega arith)
+loop-holds c = (λ route s is is-fee. none-cleared, omega arith, omega arith, omega arith)
 
 add-clear-row : tie.Need-add-clear-row Inv-loop μ-loop
 add-clear-row c = search needs
@@ -32,12 +45,21 @@ slice-aggregate-clear-row c = search needs
 clear-row-requires : tie.Need-clear-row-requires Inv-loop μ-loop
 clear-row-requires c κs =
     let turn = c .before .before .before in
-    let start = turn .before .before .before in
-    let is = turn .before .wait-table .ensures in (
-      search needs,
-      rw (turn .loop .inv .0 (start .args .route) is .returned .only .as-long) (start .pre .1),
-      start .pre .2,
-      record { route = start .args .route; money = start .args .money; is = is },
+    let tabled = turn .before in
+    let priced = tabled .before in
+    let counted = priced .before in
+    let head = counted .before in
+    let start = head .before .before .before in
+    let m = start .args .memory .now in
+    let s = shipmentAt m (start .args .i) (start .args .k) in
+    let is-head = head .head-bytes .ensures .0 in
+    let is-fee = is-fee-of m (start .args .i) (start .args .k) is-head _ (ap (λ (one : Fee). one .0) (priced .fee .ensures .0)) in
+    let count-is = count-at m (start .args .i) (start .args .k) is-head (counted .orders .ensures .0) in
+    let cleared = turn .loop .inv .0 (start .args .route) s (tabled .wait-table .ensures) is-fee in (
+      omega (arith, count-is, start .pre .0 .room),
+      rw (cleared .returned .only .as-long) (start .pre .0 .enough),
+      priced .fee .ensures .1,
+      record { route = start .args .route; money = start .args .money; is = tabled .wait-table .ensures },
       omega arith,
       omega arith,
     )
@@ -50,9 +72,9 @@ loop-less c = search needs
 
 loop-again : tie.Need-loop-again Inv-loop μ-loop
 loop-again c =
-    let cleared = c .before .before .clear-row in
+    let row = c .before .before .clear-row in
     let turn = c .before .before .before .before .before .before in (
-      λ route is. one-more-cleared (turn .loop .inv .0 route is) (cleared .ensures .0 route is),
+      λ route s is is-fee. one-more-cleared (turn .loop .inv .0 route s is is-fee) (row .ensures .0 route s is is-fee),
       search needs,
       search needs,
       search needs,
@@ -71,10 +93,19 @@ of-requires : tie.Need-of-requires Inv-loop μ-loop
 of-requires c κs =
     let wait = c .before in
     let turn = wait .before .before in
-    let start = turn .before .before .before in
-    let all : turn .loop .done ≡ start .args .n = omega (arith, wait .before .loop-test .left) in
-    let cleared = rw all at (turn .loop .inv .0 (start .args .route) (turn .before .wait-table .ensures)) in
-    rw (worth-is cleared (wait .wait-of .ensures .0)) (start .pre .3)
+    let tabled = turn .before in
+    let priced = tabled .before in
+    let counted = priced .before in
+    let head = counted .before in
+    let start = head .before .before .before in
+    let m = start .args .memory .now in
+    let s = shipmentAt m (start .args .i) (start .args .k) in
+    let is-head = head .head-bytes .ensures .0 in
+    let is-fee = is-fee-of m (start .args .i) (start .args .k) is-head _ (ap (λ (one : Fee). one .0) (priced .fee .ensures .0)) in
+    let count-is = count-at m (start .args .i) (start .args .k) is-head (counted .orders .ensures .0) in
+    let cleared = turn .loop .inv .0 (start .args .route) s (tabled .wait-table .ensures) is-fee in
+    let all : turn .loop .done ≡ counted .orders .result = omega (arith, wait .before .loop-test .left) in
+    rw (worth-is m (start .args .i) (start .args .k) (rw (all ∙ count-is) at cleared) (wait .wait-of .ensures .0)) (start .pre .1)
 
 div-count : tie.Need-div-count Inv-loop μ-loop
 div-count c = search needs
@@ -82,15 +113,36 @@ div-count c = search needs
 same-length : tie.Need-same-length Inv-loop μ-loop
 same-length c =
     let turn = c .before .before .before .before .before in
-    turn .loop .inv .0 (turn .before .before .before .args .route) (turn .before .wait-table .ensures) .returned .only .as-long
+    let tabled = turn .before in
+    let priced = tabled .before in
+    let counted = priced .before in
+    let head = counted .before in
+    let start = head .before .before .before in
+    let m = start .args .memory .now in
+    let s = shipmentAt m (start .args .i) (start .args .k) in
+    let is-head = head .head-bytes .ensures .0 in
+    let is-fee = is-fee-of m (start .args .i) (start .args .k) is-head _ (ap (λ (one : Fee). one .0) (priced .fee .ensures .0)) in
+    let count-is = count-at m (start .args .i) (start .args .k) is-head (counted .orders .ensures .0) in
+    let cleared = turn .loop .inv .0 (start .args .route) s (tabled .wait-table .ensures) is-fee in
+    cleared .returned .only .as-long
 
 returns : tie.Need-returns Inv-loop μ-loop
 returns c =
     let wait = c .before .before .before in
     let turn = wait .before .before in
-    let args = turn .before .before .before .args in
-    let all : turn .loop .done ≡ args .n = omega (arith, wait .before .loop-test .left) in
-    all-cleared (rw all at (turn .loop .inv .0 (args .route) (turn .before .wait-table .ensures))) (wait .wait-of .ensures .0) (c .before .of .ensures)
+    let tabled = turn .before in
+    let priced = tabled .before in
+    let counted = priced .before in
+    let head = counted .before in
+    let start = head .before .before .before in
+    let m = start .args .memory .now in
+    let s = shipmentAt m (start .args .i) (start .args .k) in
+    let is-head = head .head-bytes .ensures .0 in
+    let is-fee = is-fee-of m (start .args .i) (start .args .k) is-head _ (ap (λ (one : Fee). one .0) (priced .fee .ensures .0)) in
+    let count-is = count-at m (start .args .i) (start .args .k) is-head (counted .orders .ensures .0) in
+    let cleared = turn .loop .inv .0 (start .args .route) s (tabled .wait-table .ensures) is-fee in
+    let all : turn .loop .done ≡ counted .orders .result = omega (arith, wait .before .loop-test .left) in
+    all-cleared m (start .args .i) (start .args .k) (rw (all ∙ count-is) at cleared) (wait .wait-of .ensures .0) (c .before .of .ensures)
 
 pub clear-spec : {M : Type 1} → statement M
 clear-spec =
@@ -98,6 +150,9 @@ clear-spec =
     (tie.spec
     Inv-loop
     μ-loop
+    head-bytes-requires
+    orders-requires
+    fee-requires
     wait-table-requires
     loop-holds
     add-clear-row

@@ -43,12 +43,12 @@ returns c =
     let read = priced .before in
     let args = read .before .before .before .before .args in
     let took = stored .store-return .result in
-    let worth-is = priced .worth-of .ensures .0 ∙ ap (λ row. worthOf (args .money) (args .fee .0) (rowOf row)) (read .row-bytes .ensures .0) in
     let twice = twice-at-most (priced .worth-of .result) took (stored .store-return .ensures .1) in (
-      λ route is. record {
+      λ route s is is-fee. record {
         taken = took;
         row = stored .store-return .ensures .0 route (args .money) is;
-        added = ap (λ n. args .taken .worth + n * took) worth-is;
+        added = ap (λ n. args .taken .worth + n * took)
+            (priced .worth-of .ensures .0 s is-fee ∙ ap (λ row. worthOf (args .money) s (rowOf row)) (read .row-bytes .ensures .0));
         counted = refl;
       },
       omega arith,

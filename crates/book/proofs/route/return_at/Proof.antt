@@ -2,7 +2,7 @@
 use Rattle.money.specs.declared.Fee.{Fee}
 use Rattle.money.proofs.Sums.{money-is}
 use Rattle.book.specs.Answers.{returningOf}
-use Rattle.book.proofs.Returns.{waiting-within, room-at, unpaired-at, undelivered-fee-at, worthless-at, nothing-at, returned-at}
+use Rattle.book.proofs.Returns.{waiting-within, unpaired-at, undelivered-fee-at, worthless-at, nothing-at, returned-at}
 use borrow.Author.Tests.{not-true, not-false}
 use mathlib.Core.Path.{sym, ap, _∙_}
 use native.Mathlib.Omega.{arith}
@@ -40,9 +40,6 @@ returns-2 c =
     undelivered-fee-at (start .memory .now) (start .i) (start .k) (head .head-bytes .ensures .0) (start .route) (start .money)
     (paired .is-paired .ensures) (not-false _ (else-paired .if1 .left)) (barred .is-zpr-with-o .ensures) (c .if2 .taken)
 
-orders-requires : tie.Need-orders-requires
-orders-requires c κs = search needs
-
 fee-requires : tie.Need-fee-requires
 fee-requires c κs = search needs
 
@@ -56,8 +53,7 @@ returns-3 : tie.Need-returns-3
 returns-3 c =
     let worth = c .before in
     let priced = worth .before in
-    let counted = priced .before in
-    let else-barred = counted .before in
+    let else-barred = priced .before in
     let barred = else-barred .before in
     let else-paired = barred .before in
     let paired = else-paired .before in
@@ -71,20 +67,15 @@ clear-requires : tie.Need-clear-requires
 clear-requires c κs =
     let worth = c .before .before in
     let priced = worth .before in
-    let counted = priced .before in
-    let else-barred = counted .before in
+    let else-barred = priced .before in
     let barred = else-barred .before in
     let else-paired = barred .before in
     let paired = else-paired .before in
     let head = paired .before in
-    let start = head .before .before .before in
-    let is-head = head .head-bytes .ensures .0 in (
-      room-at (start .args .memory .now) (start .args .i) (start .args .k) is-head (counted .orders .ensures .0) (start .pre),
-      search needs,
-      search needs,
-      waiting-within (start .args .memory .now) (start .args .i) (start .args .k) is-head (start .args .route) (start .args .money)
-          (paired .is-paired .ensures) (not-false _ (else-paired .if1 .left)) (barred .is-zpr-with-o .ensures) (else-barred .if2 .left)
-          (ap (λ (one : Fee). one .0) (priced .fee .ensures .0)) (worth .are-worth-nothing .ensures) (counted .orders .ensures .0) (start .pre),
+    let start = head .before .before .before in (
+      start .pre,
+      waiting-within (start .args .memory .now) (start .args .i) (start .args .k) (head .head-bytes .ensures .0) (start .args .route) (start .args .money)
+          (paired .is-paired .ensures) (not-false _ (else-paired .if1 .left)) (barred .is-zpr-with-o .ensures) (else-barred .if2 .left) (start .pre),
     )
 
 grosze-requires : tie.Need-grosze-requires
@@ -99,8 +90,7 @@ returns-4 c =
     let else-worth = cleared .before .before in
     let worth = else-worth .before in
     let priced = worth .before in
-    let counted = priced .before in
-    let else-barred = counted .before in
+    let else-barred = priced .before in
     let barred = else-barred .before in
     let else-paired = barred .before in
     let paired = else-paired .before in
@@ -109,7 +99,7 @@ returns-4 c =
     nothing-at (start .args .memory .now) (start .args .i) (start .args .k) (head .head-bytes .ensures .0) (start .args .route) (start .args .money)
     (paired .is-paired .ensures) (not-false _ (else-paired .if1 .left)) (barred .is-zpr-with-o .ensures) (else-barred .if2 .left)
     (ap (λ (one : Fee). one .0) (priced .fee .ensures .0)) (worth .are-worth-nothing .ensures) (else-worth .if3 .left)
-    (counted .orders .ensures .0) (start .pre) (cleared .clear .ensures) (sym (c .before .grosze .ensures) ∙ c .if4 .taken)
+    (start .pre) (cleared .clear .ensures) (sym (c .before .grosze .ensures) ∙ c .if4 .taken)
 
 returning-requires : tie.Need-returning-requires
 returning-requires c κs = search needs
@@ -124,8 +114,7 @@ returns-5 c =
     let else-worth = cleared .before .before in
     let worth = else-worth .before in
     let priced = worth .before in
-    let counted = priced .before in
-    let else-barred = counted .before in
+    let else-barred = priced .before in
     let barred = else-barred .before in
     let else-paired = barred .before in
     let paired = else-paired .before in
@@ -136,7 +125,7 @@ returns-5 c =
     (returned-at (start .args .memory .now) (start .args .i) (start .args .k) (head .head-bytes .ensures .0) (start .args .route) (start .args .money)
     (paired .is-paired .ensures) (not-false _ (else-paired .if1 .left)) (barred .is-zpr-with-o .ensures) (else-barred .if2 .left)
     (ap (λ (one : Fee). one .0) (priced .fee .ensures .0)) (worth .are-worth-nothing .ensures) (else-worth .if3 .left)
-    (counted .orders .ensures .0) (start .pre) (cleared .clear .ensures) (omega (arith, else-nothing .if4 .left, else-nothing .before .grosze .ensures)))
+    (start .pre) (cleared .clear .ensures) (omega (arith, else-nothing .if4 .left, else-nothing .before .grosze .ensures)))
 
 pub return-at-spec : {M : Type 1} → statement M
 return-at-spec =
@@ -149,7 +138,6 @@ return-at-spec =
     is-zpr-with-o-requires
     same-length-2
     returns-2
-    orders-requires
     fee-requires
     are-worth-nothing-requires
     same-length-3
