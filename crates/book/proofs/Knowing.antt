@@ -23,7 +23,7 @@ isNone Unsound = false
 isNone Unknown = true
 isNone (At i k) = false
 
-none-unknown : (ident : Ident) (m : List ℕ) (i k n : ℕ) → isNone (placeFrom (calledIn ident) m i k n) ≡ isUnknown ident (shipmentsFrom m i k n)
+pub none-unknown : (ident : Ident) (m : List ℕ) (i k n : ℕ) → isNone (placeFrom (calledIn ident) m i k n) ≡ isUnknown ident (shipmentsFrom m i k n)
 unfolding placeFrom shipmentsFrom shipmentIn
 none-unknown ident m i k zero = refl
 none-unknown ident m i k (suc n) =

@@ -18,5 +18,6 @@ pub mod Seeking
 pub mod Making
 pub mod Appending
 pub mod Knowing
+pub mod Naming
 pub mod Entering
 pub mod IntakeActs

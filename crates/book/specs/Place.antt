@@ -9,7 +9,6 @@ use Rattle.epe.specs.declared.name.Name.{Name}
 use Rattle.model.specs.Shipment.{Shipment}
 use Rattle.model.specs.Calls.{Call, Answer, Refused, changesNothing, Outcome}
 use Rattle.model.specs.Book.{Book, onFirst, sameName, step}
-use Rattle.model.specs.Sound.{shipmentSound}
 use Rattle.model.specs.declared.Row.{Row}
 use Rattle.memory.specs.Layout.{headBytes, rowBytes, OnlyRows, OnlyShipment}
 use Rattle.memory.specs.Rows.{rowOf}

@@ -21,8 +21,8 @@ use crate::enter::take_file;
 use crate::order::Handling;
 use crate::order::handle_at;
 use crate::place::Place;
-use crate::place::find_named;
 use crate::place::place_called;
+use crate::place::place_named;
 use crate::route::return_at;
 use crate::shipment::close_at;
 use crate::shipment::go_ahead_at;
@@ -38,7 +38,6 @@ use epe::verdict::is_passed;
 use memory::SIZE;
 use memory::head::head_bytes;
 use memory::head::is_paired;
-use memory::shipments;
 use memory::store_shipments;
 use model::Deed;
 use model::Route;
@@ -86,7 +85,7 @@ fn transfer_to(memory: &mut [u8], name: Name, sum: Sum) -> Completion
     requires { ⌜ (soundIn (now memory) ≡ true) × WithinSum (groszeIn sum) ⌝ }
     ensures { λ r. ⌜ DoesSought (namedIn name) (transferred (moneyOfSum sum) (groszeIn sum)) (now (memory .entry)) (completionOf r) (now (memory .exit)) ⌝ }
 {
-    match find_named(memory, name, shipments(memory)) {
+    match place_named(memory, name) {
         Place::Unsound => Completion::Refused(refusals::UNSOUND),
         Place::Unknown => Completion::Refused(refusals::UNKNOWN),
         Place::At(i, k) => transfer_at(memory, i, k, sum),
