@@ -4,7 +4,7 @@ use mathlib.Core.Path.{_≡_, refl, sym, ap, _∙_}
 use mathlib.Core.Bool.{true, false, false≢true}
 use mathlib.Core.List.{List, []}
 use mathlib.Core.Option.{some}
-use Prim.Native.Nat.{ℕ, _*_, _≤_, _<_}
+use Prim.Native.Nat.{ℕ, _≤_, _<_}
 use native.Mathlib.Omega.{arith}
 use borrow.Author.Tests.{eqb-true, eq-eqb, leb-true}
 use lib.Dec.{leb, eqb}
@@ -44,38 +44,37 @@ counted journal fits = leb-true 8 (length journal) (and-left (leb 8 (length jour
 otherwise : {A : Type 0} → _≡_ {A = ℕ} 0 1 → A
 otherwise never = absurd (omega arith)
 
-module _ {start journal table : List ℕ} where
-  pub ends-not-empty : (readBook start ≡ some [] → ⊥) → Replays start journal table replaying.NotEmpty start table
-  ends-not-empty why = record {
-    not-empty = λ r. (why, refl, refl);
-    not-encoded = λ r. otherwise (cc);
+module _ {start journal : List ℕ} {table : List (List ℕ)} where
+  pub ends-not-encoded : journalFits journal ≡ false → Replays start journal table replaying.NotEncoded start table
+  ends-not-encoded why = record {
+    not-encoded = λ r. (why, refl, refl);
     too-few = λ r. otherwise (cc);
+    not-empty = λ r. otherwise (cc);
     replayed = λ n r. otherwise (cc);
   }
 
-  module _ (empty : readBook start ≡ some []) where
-    pub ends-not-encoded : journalFits journal ≡ false → Replays start journal table replaying.NotEncoded start table
-    ends-not-encoded why = record {
-      not-empty = λ r. otherwise (cc);
-      not-encoded = λ r. (empty, why, refl, refl);
-      too-few = λ r. otherwise (cc);
-      replayed = λ n r. otherwise (cc);
-    }
-
-    pub ends-too-few : journalFits journal ≡ true → length table < 3 * countIn journal
-        → Replays start journal table replaying.TooFewAnswers start table
-    ends-too-few encoded why = record {
-      not-empty = λ r. otherwise (cc);
+  module _ (encoded : journalFits journal ≡ true) where
+    pub ends-too-few : length table < countIn journal → Replays start journal table replaying.TooFewAnswers start table
+    ends-too-few why = record {
       not-encoded = λ r. otherwise (cc);
-      too-few = λ r. (empty, encoded, why, refl, refl);
+      too-few = λ r. (encoded, why, refl, refl);
+      not-empty = λ r. otherwise (cc);
       replayed = λ n r. otherwise (cc);
     }
 
-  pub ends-replayed : {after table′ : List ℕ} {n : ℕ} → Replayable start journal table n → Replayed start journal table after table′
+    pub ends-not-empty : countIn journal ≤ length table → (readBook start ≡ some [] → ⊥) → Replays start journal table replaying.NotEmpty start table
+    ends-not-empty enough why = record {
+      not-encoded = λ r. otherwise (cc);
+      too-few = λ r. otherwise (cc);
+      not-empty = λ r. (encoded, enough, why, refl, refl);
+      replayed = λ n r. otherwise (cc);
+    }
+
+  pub ends-replayed : {after : List ℕ} {table′ : List (List ℕ)} {n : ℕ} → Replayable start journal table n → Replayed start journal table after table′
       → Replays start journal table (replaying.Replayed n) after table′
   ends-replayed {n = n} may all = record {
-    not-empty = λ r. otherwise (cc);
     not-encoded = λ r. otherwise (cc);
     too-few = λ r. otherwise (cc);
+    not-empty = λ r. otherwise (cc);
     replayed = λ m r. (let same : m ≡ n = cc in rw same may, all);
   }

@@ -10,30 +10,30 @@ use Rattle.text.specs.Quoted.{bytes}
 use Rattle.epe.specs.Ident.{identifier, identOf}
 use Rattle.model.specs.Calls.{Pair, Transfer, On}
 use Rattle.memory.specs.Number.{numberAt}
-use Rattle.audit.specs.Journal.{actIn, callIn, entryFits, entriesFit, callsFrom, journalFits, callsIn}
+use Rattle.audit.specs.Journal.{entryNumber, textLength, textStart, actIn, callIn, entryLength, callKnown, entryFits, entriesFit, callsFrom, journalFits, callsIn}
 
 journal : List ℕ
 journal =
     (2 ∷ replicate 7 0)
-    ++ (1 ∷ replicate 20 0) ++ (0x8D ∷ 0x44 ∷ replicate 62 0) ++ (20 ∷ replicate 15 0) ++ bytes "EPEZZS1-201007-A-0-K"
-    ++ (3 ∷ 0 ∷ 0 ∷ 3 ∷ bytes "ZS1") ++ replicate 94 0
+    ++ (1 ∷ 1 ∷ 1 ∷ 0x8D ∷ 0x44 ∷ replicate 6 0) ++ (20 ∷ replicate 7 0) ++ bytes "EPEZZS1-201007-A-0-K"
+    ++ (3 ∷ 0 ∷ 1 ∷ 3 ∷ replicate 7 0) ++ bytes "ZS1"
 
 calls-are-read : callsIn journal ≡ Transfer (bytes "EPEZZS1-201007-A-0-K") 17_549 ∷ On (identOf (bytes "ZS1")) Pair ∷ []
-unfolding journal callsIn callsFrom callIn actIn numberAt identOf identifier letter digit letterOrDigit lettersOrDigits
+unfolding journal callsIn callsFrom callIn actIn entryNumber textLength textStart entryLength numberAt identOf identifier letter digit letterOrDigit lettersOrDigits
 calls-are-read = refl
 
 fits : journalFits journal ≡ true
-unfolding journal journalFits entriesFit entryFits numberAt
+unfolding journal journalFits entriesFit entryFits callKnown entryLength textStart textLength numberAt
 fits = refl
 
 one-byte-more : journalFits (journal ++ (0 ∷ [])) ≡ false
-unfolding journal journalFits entriesFit entryFits numberAt
+unfolding journal journalFits entriesFit entryFits callKnown entryLength textStart textLength numberAt
 one-byte-more = refl
 
-one-byte-less : journalFits (take 229 journal) ≡ false
-unfolding journal journalFits entriesFit entryFits numberAt
+one-byte-less : journalFits (take 60 journal) ≡ false
+unfolding journal journalFits entriesFit entryFits callKnown entryLength textStart textLength numberAt
 one-byte-less = refl
 
-whole : length journal ≡ 230
+whole : length journal ≡ 61
 unfolding journal
 whole = refl

@@ -5,20 +5,22 @@ use mathlib.Core.Bool.{Bool, true, false, _&&_}
 use mathlib.Core.List.{List}
 use Prim.Native.Nat.{ℕ, _≤_}
 use native.Mathlib.Omega.{arith}
-use borrow.Author.Tests.{leb-true, ne-eqb}
-use lib.Dec.{eqb}
-use lib.ListN.{length, getD}
+use borrow.Author.Tests.{leb-true, eqb-true, ne-eqb}
+use lib.Dec.{leb, eqb}
+use lib.ListN.{length}
 use Rattle.text.specs.Bytes.{between}
+use Rattle.text.proofs.Branches.{and-right, either-way}
 use Rattle.calendar.specs.Calendar.{real}
 use Rattle.money.specs.declared.Money.{Money}
+use Rattle.epe.specs.Ident.{identOf}
 use Rattle.epe.specs.Profile.{feesFit, profileFits}
 use Rattle.epe.specs.declared.ident.Ident.{Ident}
 use Rattle.epe.specs.declared.profile.Profile.{Profile}
 use Rattle.model.specs.Calls.{GoAhead, Pair, Close, OnOrder, Return, Intake, Transfer, On}
 use Rattle.model.specs.declared.Deed.the-variants.{Post, Pay, MarkUndelivered, Withdraw}
 use Rattle.model.specs.declared.Route.{Route}
-use Rattle.model.proofs.SoundParts.{halves}
-use Rattle.audit.specs.Journal.{identIn, numberIn, profileIn, routeIn, moneyIn, firstText, secondText, actIn, callIn, entryFits}
+use Rattle.book.specs.Numbers.{routeOf, moneyOf}
+use Rattle.audit.specs.Journal.{callByte, entryNumber, entryText, profileIn, actIn, callIn, entryLength, callKnown, entryFits}
 
 -- fees that are none spoil a profile
 pub unfit : (profile : Profile) → feesFit (profile .fees) ≡ false → profileFits profile ≡ false
@@ -31,58 +33,66 @@ unfit profile h = by (real (profile .today .0)) (eqb (length (profile .fees)) 5)
     by false five fees fields h = refl
 
 -- a whole entry has one of the calls
-pub call-known : (entry : List ℕ) → entryFits entry ≡ true → getD entry 0 0 ≤ 9
-unfolding entryFits
-call-known entry fits = leb-true (getD entry 0 0) 9 (search halves)
+pub call-known : (entry : List ℕ) → entryFits entry ≡ true → callByte entry ≤ 9
+unfolding entryFits callKnown
+call-known entry fits =
+    let known = and-right (leb (entryLength entry) (length entry)) (callKnown entry) fits in
+    either-way (eqb (callByte entry) 9)
+    (λ return. omega (arith, eqb-true (callByte entry) 9 return))
+    (λ other. omega (arith, leb-true (callByte entry) 8 (rw other at known)))
+
+-- an act that is none of the others is one on an order
+pub on-an-order : (call : ℕ) → 2 ≤ call → call ≤ 9 → (call ≡ 2 → ⊥) → (call ≡ 3 → ⊥) → (call ≡ 4 → ⊥) → (call ≡ 9 → ⊥) → (5 ≤ call) × (call ≤ 8)
+on-an-order call above below not-go-ahead not-pair not-close not-return = (omega arith, omega arith)
 
 -- the call that the first byte says
 module _ (entry : List ℕ) where
-  pub is-intake : getD entry 0 0 ≡ 0 → Intake (profileIn entry) (firstText entry) (secondText entry) ≡ callIn entry
+  pub is-intake : callByte entry ≡ 0 → Intake (profileIn entry) (entryText entry 0) (entryText entry 1) ≡ callIn entry
   unfolding callIn
   is-intake first = rw first
 
-  pub is-transfer : getD entry 0 0 ≡ 1 → Transfer (firstText entry) (numberIn entry) ≡ callIn entry
+  pub is-transfer : callByte entry ≡ 1 → Transfer (entryText entry 0) (entryNumber entry 0) ≡ callIn entry
   unfolding callIn
   is-transfer first = rw first
 
-  pub is-act : 2 ≤ getD entry 0 0 → On (identIn entry) (actIn entry) ≡ callIn entry
+  pub is-act : 2 ≤ callByte entry → On (identOf (entryText entry 0)) (actIn entry) ≡ callIn entry
   unfolding callIn
-  is-act more = rw (ne-eqb (getD entry 0 0) 0 (omega arith), ne-eqb (getD entry 0 0) 1 (omega arith))
+  is-act more = rw (ne-eqb (callByte entry) 0 (omega arith), ne-eqb (callByte entry) 1 (omega arith))
 
-  module _ {ident : Ident} (ident-is : ident ≡ identIn entry) where
-    pub on-go-ahead : getD entry 0 0 ≡ 2 → On ident GoAhead ≡ On (identIn entry) (actIn entry)
+  module _ {ident : Ident} (ident-is : ident ≡ identOf (entryText entry 0)) where
+    pub on-go-ahead : callByte entry ≡ 2 → On ident GoAhead ≡ On (identOf (entryText entry 0)) (actIn entry)
     unfolding actIn
     on-go-ahead first = rw (ident-is, first)
 
-    pub on-pair : getD entry 0 0 ≡ 3 → On ident Pair ≡ On (identIn entry) (actIn entry)
+    pub on-pair : callByte entry ≡ 3 → On ident Pair ≡ On (identOf (entryText entry 0)) (actIn entry)
     unfolding actIn
     on-pair first = rw (ident-is, first)
 
-    pub on-close : getD entry 0 0 ≡ 4 → On ident Close ≡ On (identIn entry) (actIn entry)
+    pub on-close : callByte entry ≡ 4 → On ident Close ≡ On (identOf (entryText entry 0)) (actIn entry)
     unfolding actIn
     on-close first = rw (ident-is, first)
 
-    pub on-return : {route : Route} {money : Money} → route ≡ routeIn entry → money ≡ moneyIn entry → getD entry 0 0 ≡ 9
-        → On ident (Return route money) ≡ On (identIn entry) (actIn entry)
+    pub on-return : {route : Route} {money : Money} → route ≡ routeOf (entryNumber entry 0) → money ≡ moneyOf (entryNumber entry 1) → callByte entry ≡ 9
+        → On ident (Return route money) ≡ On (identOf (entryText entry 0)) (actIn entry)
     unfolding actIn
     on-return route-is money-is first = rw (ident-is, route-is, money-is, first)
 
-    module _ {number : ℕ} (number-is : number ≡ numberIn entry) where
-      pub on-post : getD entry 0 0 ≡ 5 → On ident (OnOrder Post number) ≡ On (identIn entry) (actIn entry)
+    module _ {number : ℕ} (number-is : number ≡ entryNumber entry 0) where
+      pub on-post : callByte entry ≡ 5 → On ident (OnOrder Post number) ≡ On (identOf (entryText entry 0)) (actIn entry)
       unfolding actIn
       on-post first = rw (ident-is, number-is, first)
 
-      pub on-pay : getD entry 0 0 ≡ 6 → On ident (OnOrder Pay number) ≡ On (identIn entry) (actIn entry)
+      pub on-pay : callByte entry ≡ 6 → On ident (OnOrder Pay number) ≡ On (identOf (entryText entry 0)) (actIn entry)
       unfolding actIn
       on-pay first = rw (ident-is, number-is, first)
 
-      pub on-undelivered : getD entry 0 0 ≡ 7 → On ident (OnOrder MarkUndelivered number) ≡ On (identIn entry) (actIn entry)
+      pub on-undelivered : callByte entry ≡ 7 → On ident (OnOrder MarkUndelivered number) ≡ On (identOf (entryText entry 0)) (actIn entry)
       unfolding actIn
       on-undelivered first = rw (ident-is, number-is, first)
 
-      pub on-withdraw : 5 ≤ getD entry 0 0 → getD entry 0 0 ≤ 8 → (getD entry 0 0 ≡ 5 → ⊥) → (getD entry 0 0 ≡ 6 → ⊥) → (getD entry 0 0 ≡ 7 → ⊥)
-          → On ident (OnOrder Withdraw number) ≡ On (identIn entry) (actIn entry)
+      pub on-withdraw : 5 ≤ callByte entry → callByte entry ≤ 8 → (callByte entry ≡ 5 → ⊥) → (callByte entry ≡ 6 → ⊥) → (callByte entry ≡ 7 → ⊥)
+          → On ident (OnOrder Withdraw number) ≡ On (identOf (entryText entry 0)) (actIn entry)
       unfolding actIn
       on-withdraw above below not-post not-pay not-undelivered =
-          let first : getD entry 0 0 ≡ 8 = omega arith in
+          let first : callByte entry ≡ 8 = omega arith in
           rw (ident-is, number-is, first)

@@ -1,90 +1,88 @@
 -- A journal of calls: how many in eight bytes, then one entry to a call, one behind the other, and nothing behind the last. Numbers are stored least
--- byte first. An entry has the same places for every call; those that its call does not use may hold any number in range:
+-- byte first. An entry:
 --     0        the call: 0 intake, 1 transfer, 2 go-ahead, 3 pair, 4 close, 5 post, 6 pay, 7 mark undelivered, 8 withdraw, 9 return
---     1        route: 0 ZWR, 1 OPR, 2 ZPR, 3 ZZR
---     2        money: 0 K, 1 O
---     3        length of the identifier
---     4        identifier, 17 bytes
---     21       number of the order, or amount of the transfer
---     29       profile: today, 37 the five fees, 77 the number of fields
---     85       length of the first text (name or title)
---     93       length of the second text (file)
---     101      the first text, then the second
+--     1        how many numbers it has
+--     2        how many texts
+--     3        the numbers, eight bytes each; then the lengths of the texts, eight bytes each; then the texts, one behind the other
+-- A call takes its numbers and texts by place. A number that an entry does not have is 0, a text that it does not have is empty, and those that its
+-- call does not take are passed over: so what a later call takes has the next place, and no journal that stands changes its meaning.
 use mathlib.Core.Bool.{Bool, cond, _&&_}
 use mathlib.Core.List.{List, [], _∷_}
-use Prim.Native.Nat.{ℕ, zero, suc, _+_}
-use lib.Dec.{leb, eqb}
+use Prim.Native.Nat.{ℕ, zero, suc, _+_, _*_}
+use lib.Dec.{leb, ltb, eqb}
 use lib.ListN.{length, getD, take, drop}
-use Rattle.money.specs.declared.Money.{Money}
+use Rattle.epe.specs.Ident.{identOf}
 use Rattle.epe.specs.Profile.{asFees}
-use Rattle.epe.specs.declared.ident.Ident.{Ident}
 use Rattle.epe.specs.declared.profile.Profile.{Profile}
 use Rattle.model.specs.Calls.{Act, GoAhead, Pair, Close, OnOrder, Return, Call, Intake, Transfer, On}
 use Rattle.model.specs.declared.Deed.the-variants.{Post, Pay, MarkUndelivered, Withdraw}
-use Rattle.model.specs.declared.Route.{Route}
 use Rattle.memory.specs.Number.{numberAt}
-use Rattle.book.specs.Numbers.{routeOf, moneyOf}
+use Rattle.book.specs.Numbers.{areKnown, routeOf, moneyOf}
 
-abbrev pub identIn : List ℕ → Ident
-identIn entry = record { bytes = take 17 (drop 4 entry); len = getD entry 3 0 }
+-- The call of an entry, and how many numbers and texts it has.
+abbrev pub callByte : List ℕ → ℕ
+callByte entry = getD entry 0 0
 
-abbrev pub numberIn : List ℕ → ℕ
-numberIn entry = numberAt 8 entry 21
+abbrev pub numbersOf : List ℕ → ℕ
+numbersOf entry = getD entry 1 0
 
+abbrev pub textsOf : List ℕ → ℕ
+textsOf entry = getD entry 2 0
+
+-- The number at a place.
+unfoldable pub entryNumber : List ℕ → ℕ → ℕ
+entryNumber entry k = cond (ltb k (numbersOf entry)) (numberAt 8 entry (3 + 8 * k)) 0
+
+-- The text at a place: its length, behind the numbers; where it starts, behind the lengths and the texts before it; and its bytes.
+abbrev pub lengthsStart : List ℕ → ℕ
+lengthsStart entry = 3 + 8 * numbersOf entry
+
+abbrev pub textsStart : List ℕ → ℕ
+textsStart entry = lengthsStart entry + 8 * textsOf entry
+
+unfoldable pub textLength : List ℕ → ℕ → ℕ
+textLength entry j = cond (ltb j (textsOf entry)) (numberAt 8 entry (lengthsStart entry + 8 * j)) 0
+
+unfoldable pub textStart : List ℕ → ℕ → ℕ
+textStart entry zero = textsStart entry
+textStart entry (suc j) = textStart entry j + textLength entry j
+
+abbrev pub entryText : List ℕ → ℕ → List ℕ
+entryText entry j = take (textLength entry j) (drop (textStart entry j) entry)
+
+-- An intake takes the numbers today, five fees and fields, and the texts name and file; a transfer the number amount and the text title. Each other
+-- call takes the text identifier; post, pay, mark undelivered and withdraw the number order, and a return the numbers route and money.
 abbrev pub feesIn : List ℕ → List ℕ
-feesIn entry = numberAt 8 entry 37 ∷ numberAt 8 entry 45 ∷ numberAt 8 entry 53 ∷ numberAt 8 entry 61 ∷ numberAt 8 entry 69 ∷ []
+feesIn entry = entryNumber entry 1 ∷ entryNumber entry 2 ∷ entryNumber entry 3 ∷ entryNumber entry 4 ∷ entryNumber entry 5 ∷ []
 
 abbrev pub profileIn : List ℕ → Profile
-profileIn entry = record {
-  today = record { 0 = numberAt 8 entry 29 };
-  fees = asFees (feesIn entry);
-  fields = numberAt 8 entry 77;
-}
-
-abbrev pub routeIn : List ℕ → Route
-routeIn entry = routeOf (getD entry 1 0)
-
-abbrev pub moneyIn : List ℕ → Money
-moneyIn entry = moneyOf (getD entry 2 0)
-
-abbrev pub firstLength : List ℕ → ℕ
-firstLength entry = numberAt 8 entry 85
-
-abbrev pub secondLength : List ℕ → ℕ
-secondLength entry = numberAt 8 entry 93
-
-abbrev pub firstText : List ℕ → List ℕ
-firstText entry = take (firstLength entry) (drop 101 entry)
-
-abbrev pub secondText : List ℕ → List ℕ
-secondText entry = take (secondLength entry) (drop (101 + firstLength entry) entry)
+profileIn entry = record { today = record { 0 = entryNumber entry 0 }; fees = asFees (feesIn entry); fields = entryNumber entry 6 }
 
 unfoldable pub actIn : List ℕ → Act
 actIn entry =
-    cond (eqb (getD entry 0 0) 2) GoAhead
-    (cond (eqb (getD entry 0 0) 3) Pair
-    (cond (eqb (getD entry 0 0) 4) Close
-    (cond (eqb (getD entry 0 0) 5) (OnOrder Post (numberIn entry))
-    (cond (eqb (getD entry 0 0) 6) (OnOrder Pay (numberIn entry))
-    (cond (eqb (getD entry 0 0) 7) (OnOrder MarkUndelivered (numberIn entry))
-    (cond (eqb (getD entry 0 0) 8) (OnOrder Withdraw (numberIn entry)) (Return (routeIn entry) (moneyIn entry))))))))
+    cond (eqb (callByte entry) 2) GoAhead
+    (cond (eqb (callByte entry) 3) Pair
+    (cond (eqb (callByte entry) 4) Close
+    (cond (eqb (callByte entry) 5) (OnOrder Post (entryNumber entry 0))
+    (cond (eqb (callByte entry) 6) (OnOrder Pay (entryNumber entry 0))
+    (cond (eqb (callByte entry) 7) (OnOrder MarkUndelivered (entryNumber entry 0))
+    (cond (eqb (callByte entry) 8) (OnOrder Withdraw (entryNumber entry 0))
+    (Return (routeOf (entryNumber entry 0)) (moneyOf (entryNumber entry 1)))))))))
 
 unfoldable pub callIn : List ℕ → Call
 callIn entry =
-    cond (eqb (getD entry 0 0) 0) (Intake (profileIn entry) (firstText entry) (secondText entry))
-    (cond (eqb (getD entry 0 0) 1) (Transfer (firstText entry) (numberIn entry)) (On (identIn entry) (actIn entry)))
+    cond (eqb (callByte entry) 0) (Intake (profileIn entry) (entryText entry 0) (entryText entry 1))
+    (cond (eqb (callByte entry) 1) (Transfer (entryText entry 0) (entryNumber entry 0)) (On (identOf (entryText entry 0)) (actIn entry)))
 
--- An entry is whole where all of it is there, and its call, route and money are among those above.
-abbrev pub entryLength : List ℕ → ℕ
-entryLength entry = 101 + (firstLength entry + secondLength entry)
+-- An entry is whole where all of it is there, up to the end of its last text, and its call is among those above; a return's route and money too.
+unfoldable pub entryLength : List ℕ → ℕ
+entryLength entry = textStart entry (textsOf entry)
+
+unfoldable pub callKnown : List ℕ → Bool
+callKnown entry = cond (eqb (callByte entry) 9) (areKnown (entryNumber entry 0) (entryNumber entry 1)) (leb (callByte entry) 8)
 
 unfoldable pub entryFits : List ℕ → Bool
-entryFits entry =
-    leb 101 (length entry)
-    && (leb (getD entry 0 0) 9
-    && (leb (getD entry 1 0) 3
-    && (leb (getD entry 2 0) 1
-    && leb (entryLength entry) (length entry))))
+entryFits entry = leb (entryLength entry) (length entry) && callKnown entry
 
 -- n entries, and nothing behind them.
 unfoldable pub entriesFit : ℕ → List ℕ → Bool

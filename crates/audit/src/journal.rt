@@ -1,120 +1,158 @@
 // A journal of calls, read in place.
-use book::numbers::money_of;
-use book::numbers::route_of;
+use book::numbers::are_known;
 use calendar::date::Date;
-use epe::ident::Ident;
 use epe::profile::Profile;
 use epe::profile::fees_of;
-use memory::name::ident_bytes;
 use memory::number::read_eight;
-use model::Route;
-use money::Money;
 use text::bytes::first;
 use text::bytes::rest;
 ghost use mathlib.Core.Path.{_≡_};
 ghost use mathlib.Core.Bool.{true};
-ghost use Prim.Native.Nat.{_≤_};
-ghost use lib.Dec.{leb};
-ghost use lib.ListN.{length};
+ghost use Prim.Native.Nat.{_+_, _≤_, _<_, min};
+ghost use lib.ListN.{length, getD};
 ghost use Rattle.epe.specs.Profile.{asFees, feesFit};
-ghost use Rattle.audit.specs.Journal.{identIn, feesIn, profileIn, routeIn, moneyIn, firstText, secondText, entryLength, entryFits, entriesFit, journalFits};
+ghost use Rattle.audit.specs.Journal.{entryNumber, lengthsStart, textsStart, textLength, textStart, entryText};
+ghost use Rattle.audit.specs.Journal.{feesIn, profileIn, entryLength, callKnown, entryFits, entriesFit, journalFits};
 
-// The identifier of an entry.
-pub fn ident_in(entry: &[u8]) -> Ident
-    requires { ⌜ 101 ≤ length (now entry) ⌝ }
-    ensures { λ r. ⌜ r ≡ identIn (now (entry .entry)) ⌝ }
+// A byte as a number.
+fn wide(byte: u8) -> usize
+    ensures { λ r. ⌜ (r ≡ byte) × (r < 256) ⌝ }
 {
-    let bytes = ident_bytes(entry, 4);
-    Ident {
-        bytes,
-        len: entry[3] as usize,
+    byte as usize
+}
+
+// How many, as a byte of an entry says.
+fn count_at(entry: &[u8], i: usize) -> usize
+    requires { ⌜ i < length (now entry) ⌝ }
+    ensures { λ r. ⌜ (r ≡ getD (now (entry .entry)) i 0) × (r < 256) ⌝ }
+{
+    wide(entry[i])
+}
+
+// Where the lengths of the texts start.
+fn lengths_start(entry: &[u8]) -> usize
+    requires { ⌜ 3 ≤ length (now entry) ⌝ }
+    ensures { λ r. ⌜ (r ≡ lengthsStart (now (entry .entry))) × (r ≤ 2043) ⌝ }
+{
+    3 + 8 * count_at(entry, 1)
+}
+
+// Where the texts start.
+fn texts_start(entry: &[u8]) -> usize
+    requires { ⌜ 3 ≤ length (now entry) ⌝ }
+    ensures { λ r. ⌜ r ≡ textsStart (now (entry .entry)) ⌝ }
+{
+    lengths_start(entry) + 8 * count_at(entry, 2)
+}
+
+// The number at a place, 0 where the entry has none.
+pub fn entry_number(entry: &[u8], k: usize) -> u64
+    requires { ⌜ textsStart (now entry) ≤ length (now entry) ⌝ }
+    ensures { λ r. ⌜ r ≡ entryNumber (now (entry .entry)) k ⌝ }
+{
+    if k < count_at(entry, 1) {
+        return read_eight(entry, 3 + 8 * k);
     }
+    0
+}
+
+// How long the text at a place is, 0 where the entry has none.
+fn text_length(entry: &[u8], j: usize) -> u64
+    requires { ⌜ textsStart (now entry) ≤ length (now entry) ⌝ }
+    ensures { λ r. ⌜ r ≡ textLength (now (entry .entry)) j ⌝ }
+{
+    if j < count_at(entry, 2) {
+        return read_eight(entry, lengths_start(entry) + 8 * j);
+    }
+    0
+}
+
+// Where the text at a place starts, or behind the entry where the texts before it are not there. A length may be any number, so that each is held
+// against what is left.
+fn text_start(entry: &[u8], j: usize) -> usize
+    requires { ⌜ textsStart (now entry) ≤ length (now entry) ⌝ }
+    ensures { λ r. ⌜ r ≡ min (textStart (now (entry .entry)) j) (length (now (entry .entry)) + 1) ⌝ }
+{
+    let mut at = texts_start(entry);
+    let mut k = 0;
+    while k < j {
+        let long = text_length(entry, k);
+        if ((entry.len() - at) as u64) < long {
+            return entry.len() + 1;
+        }
+        at += long as usize;
+        k += 1;
+    }
+    at
+}
+
+// The text at a place, empty where the entry has none.
+pub fn entry_text(entry: &[u8], j: usize) -> &[u8]
+    requires { ⌜ entryFits (now entry) ≡ true ⌝ }
+    ensures { λ r. ⌜ now r ≡ entryText (now (entry .entry)) j ⌝ }
+{
+    let at = text_start(entry, j);
+    first(rest(entry, at), text_length(entry, j) as usize)
 }
 
 // The numbers that stand for the five fees of the profile.
 pub fn fees_in(entry: &[u8]) -> [u64; 5]
-    requires { ⌜ 101 ≤ length (now entry) ⌝ }
+    requires { ⌜ textsStart (now entry) ≤ length (now entry) ⌝ }
     ensures { λ r. ⌜ r ≡ feesIn (now (entry .entry)) ⌝ }
 {
     [
-        read_eight(entry, 37),
-        read_eight(entry, 45),
-        read_eight(entry, 53),
-        read_eight(entry, 61),
-        read_eight(entry, 69),
+        entry_number(entry, 1),
+        entry_number(entry, 2),
+        entry_number(entry, 3),
+        entry_number(entry, 4),
+        entry_number(entry, 5),
     ]
 }
 
 // The profile of an entry whose fees are fees.
 pub fn profile_in(entry: &[u8]) -> Profile
-    requires { ⌜ (101 ≤ length (now entry)) × (feesFit (asFees (feesIn (now entry))) ≡ true) ⌝ }
+    requires { ⌜ (textsStart (now entry) ≤ length (now entry)) × (feesFit (asFees (feesIn (now entry))) ≡ true) ⌝ }
     ensures { λ r. ⌜ r ≡ profileIn (now (entry .entry)) ⌝ }
 {
     let fees = fees_of(fees_in(entry));
     Profile {
-        today: Date(read_eight(entry, 29)),
+        today: Date(entry_number(entry, 0)),
         fees,
-        fields: read_eight(entry, 77),
+        fields: entry_number(entry, 6),
     }
 }
 
-// The route of an entry.
-pub fn route_in(entry: &[u8]) -> Route
-    requires { ⌜ 101 ≤ length (now entry) ⌝ }
-    ensures { λ r. ⌜ r ≡ routeIn (now (entry .entry)) ⌝ }
+// Is the call one that there is?
+fn is_call_known(entry: &[u8]) -> bool
+    requires { ⌜ textsStart (now entry) ≤ length (now entry) ⌝ }
+    ensures { λ r. ⌜ r ≡ callKnown (now (entry .entry)) ⌝ }
 {
-    route_of(entry[1] as u64)
+    if entry[0] == 9 {
+        return are_known(entry_number(entry, 0), entry_number(entry, 1));
+    }
+    entry[0] <= 8
 }
 
-// The money of an entry.
-pub fn money_in(entry: &[u8]) -> Money
-    requires { ⌜ 101 ≤ length (now entry) ⌝ }
-    ensures { λ r. ⌜ r ≡ moneyIn (now (entry .entry)) ⌝ }
+// How long an entry is, or more than there is where it is not all there.
+pub fn entry_length(entry: &[u8]) -> usize
+    requires { ⌜ textsStart (now entry) ≤ length (now entry) ⌝ }
+    ensures { λ r. ⌜ r ≡ min (entryLength (now (entry .entry))) (length (now (entry .entry)) + 1) ⌝ }
 {
-    money_of(entry[2] as u64)
-}
-
-// The name or the title of an entry.
-pub fn first_text(entry: &[u8]) -> &[u8]
-    requires { ⌜ entryFits (now entry) ≡ true ⌝ }
-    ensures { λ r. ⌜ now r ≡ firstText (now (entry .entry)) ⌝ }
-{
-    first(rest(entry, 101), read_eight(entry, 85) as usize)
-}
-
-// The file of an entry.
-pub fn second_text(entry: &[u8]) -> &[u8]
-    requires { ⌜ entryFits (now entry) ≡ true ⌝ }
-    ensures { λ r. ⌜ now r ≡ secondText (now (entry .entry)) ⌝ }
-{
-    let at = 101 + read_eight(entry, 85) as usize;
-    first(rest(entry, at), read_eight(entry, 93) as usize)
-}
-
-// Are both texts there? Each length may be any number, so that no sum of them is made.
-fn are_texts_there(entry: &[u8]) -> bool
-    requires { ⌜ 101 ≤ length (now entry) ⌝ }
-    ensures { λ r. ⌜ r ≡ leb (entryLength (now (entry .entry))) (length (now (entry .entry))) ⌝ }
-{
-    let room = (entry.len() - 101) as u64;
-    let first = read_eight(entry, 85);
-    first <= room && read_eight(entry, 93) <= room - first
+    text_start(entry, count_at(entry, 2))
 }
 
 // Is an entry whole?
 pub fn does_entry_fit(entry: &[u8]) -> bool
     ensures { λ r. ⌜ r ≡ entryFits (now (entry .entry)) ⌝ }
 {
-    101 <= entry.len()
-        && (entry[0] <= 9 && (entry[1] <= 3 && (entry[2] <= 1 && are_texts_there(entry))))
-}
-
-// How long an entry is.
-pub fn entry_length(entry: &[u8]) -> usize
-    requires { ⌜ entryFits (now entry) ≡ true ⌝ }
-    ensures { λ r. ⌜ (r ≡ entryLength (now (entry .entry))) × (r ≤ length (now (entry .entry))) ⌝ }
-{
-    101 + (read_eight(entry, 85) as usize + read_eight(entry, 93) as usize)
+    let n = entry.len();
+    if n < 3 {
+        return false;
+    }
+    if n < texts_start(entry) {
+        return false;
+    }
+    entry_length(entry) <= n && is_call_known(entry)
 }
 
 // Are the bytes n whole entries, and nothing else?

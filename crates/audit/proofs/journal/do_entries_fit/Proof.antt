@@ -5,7 +5,7 @@ use native.Mathlib.Omega.{arith}
 use lib.ListN.{length, drop}
 use Rattle.text.proofs.Branches.{told-no, told-yes}
 use Rattle.audit.specs.Journal.{entriesFit}
-use Rattle.audit.proofs.JournalLaws.{entry-within, entry-short, entry-passed, all-passed}
+use Rattle.audit.proofs.JournalLaws.{fields-there, exact, entry-within, entry-short, entry-passed, all-passed}
 use borrow.Author.Needs.{needs}
 use Rattle.audit.proofs.journal.do_entries_fit.Statement.{statement}
 use Rattle.audit.proofs.journal.do_entries_fit.Tie as tie
@@ -34,13 +34,15 @@ returns c =
     sym (entry-short _ (loop .at) (loop .left) (asked .before .rest .ensures) (turn .loop-test .taken) short) ∙ loop .inv .1
 
 entry-length-requires : tie.Need-entry-length-requires Inv-loop μ-loop
-entry-length-requires c κs = told-yes _ _ (c .before .does-entry-fit .ensures) (c .if1 .left)
+entry-length-requires c κs = fields-there _ (told-yes _ _ (c .before .does-entry-fit .ensures) (c .if1 .left))
 
 add-at : tie.Need-add-at Inv-loop μ-loop
 add-at c =
-    let entry = c .before .before .before in
+    let asked = c .before .before in
+    let entry = asked .before in
     let loop = entry .before .before .loop in
-    let within = entry-within _ (loop .at) (c .entry-length .result) (entry .rest .ensures) (loop .inv .0) (c .entry-length .ensures .1) in
+    let whole = told-yes _ _ (asked .does-entry-fit .ensures) (c .before .if1 .left) in
+    let within = entry-within _ (loop .at) (c .entry-length .result) (entry .rest .ensures) (loop .inv .0) (exact _ whole (c .entry-length .ensures) .1) in
     search needs
 
 sub-left : tie.Need-sub-left Inv-loop μ-loop
@@ -55,9 +57,10 @@ loop-again c =
     let entry = asked .before in
     let turn = entry .before in
     let loop = turn .before .loop in
-    let whole = told-yes _ _ (asked .does-entry-fit .ensures) (c .before .if1 .left) in (
-      entry-within _ (loop .at) (c .entry-length .result) (entry .rest .ensures) (loop .inv .0) (c .entry-length .ensures .1),
-      entry-passed _ (loop .at) (loop .left) (entry .rest .ensures) (turn .loop-test .taken) whole (c .entry-length .ensures .0) ∙ loop .inv .1,
+    let whole = told-yes _ _ (asked .does-entry-fit .ensures) (c .before .if1 .left) in
+    let long = exact _ whole (c .entry-length .ensures) in (
+      entry-within _ (loop .at) (c .entry-length .result) (entry .rest .ensures) (loop .inv .0) (long .1),
+      entry-passed _ (loop .at) (loop .left) (entry .rest .ensures) (turn .loop-test .taken) whole (long .0) ∙ loop .inv .1,
     )
 
 returns-2 : tie.Need-returns-2 Inv-loop μ-loop

@@ -1,24 +1,17 @@
--- `audit::journal::entry_length` adds up both lengths.
-use Rattle.audit.proofs.JournalLaws.{fields-there, texts-there}
+-- `audit::journal::entry_length` goes to the end of the last text.
+use Rattle.audit.proofs.JournalLaws.{length-is}
 use borrow.Author.Needs.{needs}
 use Rattle.audit.proofs.journal.entry_length.Statement.{statement}
 use Rattle.audit.proofs.journal.entry_length.Tie as tie
 
-read-eight-requires : tie.Need-read-eight-requires
-read-eight-requires c κs = let there = fields-there _ (c .before .pre) in search needs
+count-at-requires : tie.Need-count-at-requires
+count-at-requires c κs = search needs
 
-read-eight-requires-2 : tie.Need-read-eight-requires-2
-read-eight-requires-2 c κs = let there = fields-there _ (c .before .before .pre) in search needs
-
-add-result : tie.Need-add-result
-add-result c = let there = texts-there _ (c .before .before .before .pre) in search needs
-
-add-result-2 : tie.Need-add-result-2
-add-result-2 c = let there = texts-there _ (c .before .before .before .pre) in search needs
+text-start-requires : tie.Need-text-start-requires
+text-start-requires c κs = search needs
 
 returns : tie.Need-returns
-returns c = let there = texts-there _ (c .before .before .before .pre) in search needs
+returns c = length-is _ (c .before .count-at .ensures .0) (c .text-start .ensures)
 
 pub entry-length-spec : {M : Type 1} → statement M
-entry-length-spec =
-    tie.close (tie.spec read-eight-requires read-eight-requires-2 add-result add-result-2 returns)
+entry-length-spec = tie.close (tie.spec count-at-requires text-start-requires returns)

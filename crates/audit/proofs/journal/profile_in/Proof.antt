@@ -11,23 +11,23 @@ fees-in-requires c κs = search needs
 fees-of-requires : tie.Need-fees-of-requires
 fees-of-requires c κs = rw (c .fees-in .ensures) (c .before .before .pre .1)
 
-read-eight-requires : tie.Need-read-eight-requires
-read-eight-requires c κs = search needs
+entry-number-requires : tie.Need-entry-number-requires
+entry-number-requires c κs = search needs
 
-read-eight-requires-2 : tie.Need-read-eight-requires-2
-read-eight-requires-2 c κs = search needs
+entry-number-requires-2 : tie.Need-entry-number-requires-2
+entry-number-requires-2 c κs = search needs
 
 returns : tie.Need-returns
 returns c =
     let today = c .before in
     let fees = today .before in
     λ i. record {
-      today = record { 0 = today .read-eight .ensures i };
+      today = record { 0 = today .entry-number .ensures i };
       fees = (fees .fees-of .ensures ∙ ap asFees (fees .before .fees-in .ensures)) i;
-      fields = c .read-eight2 .ensures i;
+      fields = c .entry-number2 .ensures i;
     }
 
 pub profile-in-spec : {M : Type 1} → statement M
 profile-in-spec =
     tie.close
-    (tie.spec fees-in-requires fees-of-requires read-eight-requires read-eight-requires-2 returns)
+    (tie.spec fees-in-requires fees-of-requires entry-number-requires entry-number-requires-2 returns)

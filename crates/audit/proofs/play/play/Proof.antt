@@ -1,6 +1,6 @@
 -- `audit::play::play` makes the call that the first byte says.
 use Rattle.book.proofs.Telling.{plays-same}
-use Rattle.audit.proofs.Playing.{call-known, is-intake, is-transfer, is-act}
+use Rattle.audit.proofs.Playing.{is-intake, is-transfer, is-act}
 use Rattle.audit.proofs.JournalLaws.{fields-there}
 use native.Mathlib.Omega.{arith}
 use borrow.Author.Needs.{needs}
@@ -19,7 +19,7 @@ play-transfer-requires c κs = search needs
 play-act-requires : tie.Need-play-act-requires
 play-act-requires c κs =
     let fits = c .before .before .before .before .before .pre in
-    (fields-there _ fits, omega arith, call-known _ fits)
+    (fits, omega arith)
 
 same-length : tie.Need-same-length
 same-length c = search needs

@@ -36,11 +36,11 @@ profile-in-requires c κs =
     let start = fees .before .before .before in
     (fields-there _ (start .pre), ap (λ numbers. feesFit (asFees numbers)) (sym (fees .fees-in .ensures)) ∙ sym (asked .are-fees .ensures) ∙ not-false _ (c .before .if1 .left))
 
-first-text-requires : tie.Need-first-text-requires
-first-text-requires c κs = search needs
+entry-text-requires : tie.Need-entry-text-requires
+entry-text-requires c κs = search needs
 
-second-text-requires : tie.Need-second-text-requires
-second-text-requires c κs = search needs
+entry-text-requires-2 : tie.Need-entry-text-requires-2
+entry-text-requires-2 c κs = search needs
 
 intake-requires : tie.Need-intake-requires
 intake-requires c κs = search needs
@@ -56,7 +56,7 @@ returns-2 c =
     let made = c .before .before .before in
     let second = made .before in
     let first = second .before in
-    plays (λ i. Intake (first .before .profile-in .ensures i) (first .first-text .ensures i) (second .second-text .ensures i)) (made .intake .ensures)
+    plays (λ i. Intake (first .before .profile-in .ensures i) (first .entry-text .ensures i) (second .entry-text2 .ensures i)) (made .intake .ensures)
     (c .tell-acceptance .ensures)
 
 pub play-intake-spec : {M : Type 1} → statement M
@@ -68,8 +68,8 @@ play-intake-spec =
     refused-requires
     returns
     profile-in-requires
-    first-text-requires
-    second-text-requires
+    entry-text-requires
+    entry-text-requires-2
     intake-requires
     tell-acceptance-requires
     same-length

@@ -1,15 +1,17 @@
 -- `audit::play::play_on_order` does what the first byte says with the order of the number.
 use Rattle.book.proofs.Telling.{plays}
 use Rattle.audit.proofs.Playing.{on-post, on-pay, on-undelivered, on-withdraw}
+use Rattle.audit.proofs.JournalLaws.{fields-there}
+use native.Mathlib.Omega.{arith}
 use borrow.Author.Needs.{needs}
 use Rattle.audit.proofs.play.play_on_order.Statement.{statement}
 use Rattle.audit.proofs.play.play_on_order.Tie as tie
 
-read-eight-requires : tie.Need-read-eight-requires
-read-eight-requires c κs = search needs
+entry-number-requires : tie.Need-entry-number-requires
+entry-number-requires c κs = fields-there _ (c .before .before .pre .0)
 
 shared-slice-read-match : tie.Need-shared-slice-read-match
-shared-slice-read-match c = search needs
+shared-slice-read-match c = let there = fields-there _ (c .before .before .before .before .pre .0) in omega arith
 
 post-requires : tie.Need-post-requires
 post-requires c κs = search needs
@@ -43,7 +45,7 @@ returns c =
     let made = c .before .before .before in
     let chosen = made .before .before in
     let number = chosen .before .before in
-    plays (on-post _ (number .before .before .before .pre .1) (number .read-eight .ensures) (chosen .match .keys1))
+    plays (on-post _ (number .before .before .before .pre .1) (number .entry-number .ensures) (chosen .match .keys1))
     (made .post .ensures) (c .tell-posting .ensures)
 
 same-length-2 : tie.Need-same-length-2
@@ -54,7 +56,7 @@ returns-2 c =
     let made = c .before .before .before in
     let chosen = made .before .before in
     let number = chosen .before .before in
-    plays (on-pay _ (number .before .before .before .pre .1) (number .read-eight .ensures) (chosen .match .keys2))
+    plays (on-pay _ (number .before .before .before .pre .1) (number .entry-number .ensures) (chosen .match .keys2))
     (made .pay .ensures) (c .tell-payment .ensures)
 
 same-length-3 : tie.Need-same-length-3
@@ -65,7 +67,7 @@ returns-3 c =
     let made = c .before .before .before in
     let chosen = made .before .before in
     let number = chosen .before .before in
-    plays (on-undelivered _ (number .before .before .before .pre .1) (number .read-eight .ensures) (chosen .match .keys3))
+    plays (on-undelivered _ (number .before .before .before .pre .1) (number .entry-number .ensures) (chosen .match .keys3))
     (made .mark-undelivered .ensures) (c .tell-completion .ensures)
 
 same-length-4 : tie.Need-same-length-4
@@ -78,14 +80,14 @@ returns-4 c =
     let number = chosen .before .before in
     let start = number .before .before .before in
     let others = chosen .match .rest in
-    plays (on-withdraw _ (start .pre .1) (number .read-eight .ensures) (start .pre .2) (start .pre .3) (others .0 .0 .1) (others .0 .1) (others .1))
+    plays (on-withdraw _ (start .pre .1) (number .entry-number .ensures) (start .pre .2) (start .pre .3) (others .0 .0 .1) (others .0 .1) (others .1))
     (made .withdraw .ensures) (c .tell-completion2 .ensures)
 
 pub play-on-order-spec : {M : Type 1} → statement M
 play-on-order-spec =
     tie.close
     (tie.spec
-    read-eight-requires
+    entry-number-requires
     shared-slice-read-match
     post-requires
     tell-posting-requires

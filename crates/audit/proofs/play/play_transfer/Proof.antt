@@ -2,16 +2,15 @@
 use Rattle.book.proofs.Telling.{plays}
 use Rattle.audit.proofs.JournalLaws.{fields-there}
 use Rattle.model.specs.Calls.{Transfer}
-use native.Mathlib.Omega.{arith}
 use borrow.Author.Needs.{needs}
 use Rattle.audit.proofs.play.play_transfer.Statement.{statement}
 use Rattle.audit.proofs.play.play_transfer.Tie as tie
 
-first-text-requires : tie.Need-first-text-requires
-first-text-requires c κs = search needs
+entry-text-requires : tie.Need-entry-text-requires
+entry-text-requires c κs = search needs
 
-read-eight-requires : tie.Need-read-eight-requires
-read-eight-requires c κs = let long = fields-there _ (c .before .before .before .before .pre) in omega arith
+entry-number-requires : tie.Need-entry-number-requires
+entry-number-requires c κs = fields-there _ (c .before .before .before .before .pre)
 
 transfer-requires : tie.Need-transfer-requires
 transfer-requires c κs = search needs
@@ -26,14 +25,14 @@ returns : tie.Need-returns
 returns c =
     let made = c .before .before .before in
     let number = made .before in
-    plays (λ i. Transfer (number .before .first-text .ensures i) (number .read-eight .ensures i)) (made .transfer .ensures) (c .tell-completion .ensures)
+    plays (λ i. Transfer (number .before .entry-text .ensures i) (number .entry-number .ensures i)) (made .transfer .ensures) (c .tell-completion .ensures)
 
 pub play-transfer-spec : {M : Type 1} → statement M
 play-transfer-spec =
     tie.close
     (tie.spec
-    first-text-requires
-    read-eight-requires
+    entry-text-requires
+    entry-number-requires
     transfer-requires
     tell-completion-requires
     same-length
