@@ -19,7 +19,7 @@
  *   book   At least buntingraft_book_bytes() bytes. The whole state of a book is in them: they need no alignment, hold no
  *          pointer, and may be copied, written to disk and lent again elsewhere. Bytes behind that length stay as they are.
  *          A fresh book is made by buntingraft_make_empty.
- *   name, file, title, id
+ *   name, file, title, id, journal
  *          Bytes that are only read, with no terminating zero.
  *
  * Each is a pointer and a number of bytes. The pointer is not null, even where the number is 0, and all those bytes can be
@@ -35,6 +35,7 @@
  *
  * A reply has a status and two numbers. Refused: first is the number of the first question that was answered no, second is 0,
  * and the book is as it was, byte for byte. Short comes from buntingraft_pair alone, and leaves every byte of the book too.
+ * Not replayed comes from buntingraft_replay alone.
  *
  * Questions are asked in the order in which they stand below. The numbers of an intake and those of the other calls are two
  * sets: 10, 11, 13, 14, 16, 17, 19, 20, 22 and 23 are in both, and mean different things.
@@ -53,7 +54,8 @@ extern "C" {
 enum {
     BUNTINGRAFT_DONE = 0,
     BUNTINGRAFT_SHORT = 1,
-    BUNTINGRAFT_REFUSED = 2
+    BUNTINGRAFT_REFUSED = 2,
+    BUNTINGRAFT_NOT_REPLAYED = 3
 };
 
 struct buntingraft_reply {
@@ -300,6 +302,50 @@ struct buntingraft_totals {
  */
 struct buntingraft_reply buntingraft_sheet(const uint8_t *book, size_t book_length, struct buntingraft_row *table, size_t rows,
                                            struct buntingraft_totals *totals);
+
+/*
+ * Makes every call of a journal in an empty book, one after the other, and tells every reply: the calls do what the same calls
+ * made one by one would do, and reply the same. So a site's journal shows from the first call on what its book holds and why.
+ *
+ * `journal` is the number of its entries in eight bytes, then the entries one behind the other, and nothing behind the last.
+ * Numbers are stored least byte first. An entry is
+ *
+ *     one byte: the call
+ *     one byte: how many numbers it has
+ *     one byte: how many texts it has
+ *     its numbers, eight bytes each
+ *     the lengths of its texts, eight bytes each
+ *     its texts, one behind the other
+ *
+ * and a call takes its numbers and texts by place:
+ *
+ *     0  intake            today, five fees, fields; name, file
+ *     1  transfer          amount; title
+ *     2  go-ahead          id
+ *     3  pair              id
+ *     4  close             id
+ *     5  post              order; id
+ *     6  pay               order; id
+ *     7  mark undelivered  order; id
+ *     8  withdraw          order; id
+ *     9  return            route, money; id
+ *
+ * A number that an entry does not have is 0, a text that it does not have is empty, and those that its call does not take are
+ * passed over.
+ *
+ * `answers` is `places` replies, lent as the book is (the pointer not null, even where `places` is 0) and aligned as their
+ * type asks. Its first are the replies of the journal's calls, refused ones included; those behind them stay as they are.
+ *
+ * Done: the number of calls made, 0.
+ * Not replayed: why, 0; no call was made, and every byte of the book and of the table is as it was:
+ *
+ *     1  the journal is not whole entries: one is cut off, there are more or fewer than it says, one has a call that there is
+ *        not, or a return has such a route or money
+ *     2  the table has fewer places than the journal has entries
+ *     3  the book's memory is not long enough, or no sound book without shipments
+ */
+struct buntingraft_reply buntingraft_replay(uint8_t *book, size_t book_length, const uint8_t *journal, size_t journal_length,
+                                            struct buntingraft_reply *answers, size_t places);
 
 #ifdef __cplusplus
 }

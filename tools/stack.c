@@ -18,6 +18,7 @@
 
 #define ORDERS 2048
 #define SHIPMENTS 32
+#define CALLS 4
 
 /* The bytes of a literal and their number. */
 #define BYTES(literal) (const uint8_t *)(literal), sizeof(literal) - 1
@@ -36,6 +37,9 @@ static char file[256 * 1024];
 static size_t file_length;
 static struct buntingraft_row table[SHIPMENTS];
 static struct buntingraft_totals totals;
+static uint8_t journal[sizeof file + 1024];
+static size_t journal_length;
+static struct buntingraft_reply answers[CALLS];
 
 /* What the next call is given, and what it replied. */
 static uint64_t amount, order, route, money;
@@ -110,6 +114,7 @@ static void mark_undelivered(void) { reply = buntingraft_mark_undelivered(BOOK, 
 static void withdraw(void) { reply = buntingraft_withdraw(BOOK, ID, order); }
 static void return_money(void) { reply = buntingraft_return(BOOK, ID, route, money); }
 static void sheet(void) { reply = buntingraft_sheet(BOOK, table, SHIPMENTS, &totals); }
+static void replay(void) { reply = buntingraft_replay(BOOK, journal, journal_length, answers, CALLS); }
 static void book_bytes(void) { reply.first = buntingraft_book_bytes(); }
 
 /* Makes a call, prints its stack, and holds it to its status and its first number. */
@@ -133,6 +138,38 @@ static void write_file(const char *id, int orders) {
         end += sprintf(end, "\r\n2|%d|1.00|%s|Jan|Kraków|30-001|Kraków|Długa|5||SP_12||ZUS/1|09.2020||||", i, surname);
     }
     file_length = (size_t)(end - file);
+}
+
+/* Puts a number of eight bytes behind the journal, least byte first. */
+static void put_number(uint64_t number) {
+    for (int i = 0; i < 8; i++) journal[journal_length++] = (uint8_t)(number >> (8 * i));
+}
+
+/* Puts an entry behind the journal: a call with its numbers and two texts, of which most calls take the first. */
+static void put_entry(uint8_t call, const uint64_t *numbers, uint8_t n, const char *first, const char *second,
+                      size_t second_length) {
+    journal[journal_length++] = call;
+    journal[journal_length++] = n;
+    journal[journal_length++] = 2;
+    for (int i = 0; i < n; i++) put_number(numbers[i]);
+    put_number(strlen(first));
+    put_number(second_length);
+    memcpy(journal + journal_length, first, strlen(first));
+    journal_length += strlen(first);
+    memcpy(journal + journal_length, second, second_length);
+    journal_length += second_length;
+}
+
+/* Writes a journal of the intake of a full book, a transfer, a go-ahead and a pairing. */
+static void write_journal(void) {
+    const uint64_t profile[] = {20201007, 350, 350, 350, 350, 350, 19}, sum[] = {100 * ORDERS};
+    write_file("ZS1", ORDERS);
+    journal_length = 0;
+    put_number(CALLS);
+    put_entry(0, profile, 7, name, file, file_length);
+    put_entry(1, sum, 1, NAME "-K", "", 0);
+    put_entry(2, NULL, 0, "ZS1", "", 0);
+    put_entry(3, NULL, 0, "ZS1", "", 0);
 }
 
 /* A book of one shipment, of as many orders as there is room for, until it is paired. */
@@ -200,6 +237,15 @@ static void on_many_shipments(void) {
     expect("sheet of 32 shipments", BUNTINGRAFT_DONE, SHIPMENTS, sheet);
 }
 
+/* The replay of a journal, in a book that is not empty and in one that is. */
+static void on_a_journal(void) {
+    write_journal();
+    expect("replay in a full book", BUNTINGRAFT_NOT_REPLAYED, 3, replay);
+    expect("make_empty for a replay", BUNTINGRAFT_DONE, 0, make_empty);
+    expect("replay", BUNTINGRAFT_DONE, CALLS, replay);
+    calls_wrong += answers[0].first != ORDERS || answers[3].status != BUNTINGRAFT_SHORT || answers[3].second != 350 * ORDERS;
+}
+
 int main(void) {
     prepare();
     if (stack_of(too_deep) <= STACK) {
@@ -210,5 +256,6 @@ int main(void) {
     on_its_orders();
     on_its_returns();
     on_many_shipments();
+    on_a_journal();
     return calls_wrong == 0 ? EXIT_SUCCESS : EXIT_FAILURE;
 }
