@@ -79,6 +79,7 @@
 
 mod answer;
 mod book;
+mod journal;
 mod money;
 mod question;
 mod refusal;
@@ -87,11 +88,12 @@ mod sys;
 
 pub use answer::{Accepted, Pairing, Returned};
 pub use book::Book;
+pub use journal::{Journal, NotReplayed};
 pub use money::{Amount, Fee, Money, Route};
 pub use question::{Call, Question};
 pub use refusal::Refusal;
 pub use sheet::Sheet;
-pub use sys::{Profile, SheetRow, Totals};
+pub use sys::{Profile, Reply, SheetRow, Totals};
 
 /// How many bytes a book takes.
 pub const BOOK_BYTES: usize = 18_496;

@@ -3,16 +3,18 @@
 
 use crate::money::{Amount, Fee};
 
-/// A reply: its status, and two numbers whose meaning depends on the call.
+/// A reply: its status, and two numbers whose meaning depends on the call. The
+/// calls of a [`Book`](crate::Book) tell it as what they answer; a replay tells
+/// it as it is.
 #[repr(C)]
-#[derive(Clone, Copy)]
-pub(crate) struct Reply {
-    /// [`DONE`], [`SHORT`] or refused.
-    pub(crate) status: u64,
+#[derive(Clone, Copy, Debug, Default, PartialEq, Eq)]
+pub struct Reply {
+    /// 0 done, 1 short (of a pairing alone), 2 refused.
+    pub status: u64,
     /// A refusal's number, or the first number of an answer.
-    pub(crate) first: u64,
+    pub first: u64,
     /// The second number of an answer.
-    pub(crate) second: u64,
+    pub second: u64,
 }
 
 /// The status of a call that was done.
@@ -193,12 +195,29 @@ unsafe extern "C" {
         rows: usize,
         totals: *mut Totals,
     ) -> Reply;
+
+    pub(crate) fn buntingraft_replay(
+        book: *mut u8,
+        book_length: usize,
+        journal: *const u8,
+        journal_length: usize,
+        answers: *mut Reply,
+        places: usize,
+    ) -> Reply;
 }
 
 #[cfg(test)]
 mod tests {
     use super::*;
     use std::mem::offset_of;
+
+    #[test]
+    fn a_reply_is_laid_out_as_the_header_has_it() {
+        assert_eq!((size_of::<Reply>(), align_of::<Reply>()), (24, 8));
+        assert_eq!(offset_of!(Reply, status), 0);
+        assert_eq!(offset_of!(Reply, first), 8);
+        assert_eq!(offset_of!(Reply, second), 16);
+    }
 
     #[test]
     fn a_row_is_laid_out_as_the_header_has_it() {

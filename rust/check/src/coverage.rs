@@ -3,7 +3,7 @@
 
 use crate::archive::kind;
 use crate::sheet::Taken;
-use buntingraft::Call;
+use buntingraft::{Call, NotReplayed};
 use reference::{Answer, Book, Money, Route, State};
 use std::collections::BTreeMap;
 use std::fmt;
@@ -22,6 +22,8 @@ pub struct Coverage {
     answers: BTreeMap<(Call, Outcome), u64>,
     returns: BTreeMap<(u64, u64), u64>,
     faults: [u64; 11],
+    replayed: u64,
+    not_replayed: [u64; 3],
     /// Random lists.
     pub lists: u64,
     /// Calls that were made on copies alone, to probe a book.
@@ -69,6 +71,16 @@ impl Coverage {
             Err(number) => Answer::Refused(*number),
         };
         self.note_answer(Call::Sheet, &answer);
+    }
+
+    /// Counts a replay.
+    pub fn note_replay(&mut self, made: &Result<usize, NotReplayed>) {
+        match made {
+            Ok(_) => self.replayed += 1,
+            Err(NotReplayed::NotWhole) => self.not_replayed[0] += 1,
+            Err(NotReplayed::TooFewPlaces) => self.not_replayed[1] += 1,
+            Err(NotReplayed::NotEmpty) => self.not_replayed[2] += 1,
+        }
     }
 
     /// How many calls were counted, or how many of one kind.
@@ -132,6 +144,9 @@ impl Coverage {
         for fault in (1..=10).filter(|fault| self.faults[*fault] == 0) {
             missing.push(format!("fault {fault}"));
         }
+        for reason in (1..=3).filter(|reason| self.not_replayed[reason - 1] == 0) {
+            missing.push(format!("journal not replayed for {reason}"));
+        }
         missing
     }
 }
@@ -179,7 +194,11 @@ impl fmt::Display for Coverage {
         write_row(f, "returns done", cells)?;
         let faults = self.faults.iter().enumerate().skip(1);
         let cells = faults.map(|(fault, count)| format!("{fault}: {count}"));
-        write_row(f, "faults", cells)
+        write_row(f, "faults", cells)?;
+        let reasons = self.not_replayed.iter().zip(1..);
+        let cells = reasons.map(|(count, reason)| format!("not {reason}: {count}"));
+        let done = std::iter::once(format!("done: {}", self.replayed));
+        write_row(f, "journals", done.chain(cells))
     }
 }
 

@@ -4,7 +4,7 @@
 
 use crate::archive;
 use crate::layout::LENGTH;
-use buntingraft::{Refusal, SheetRow, Totals};
+use buntingraft::{Book, NotReplayed, Refusal, Reply, SheetRow, Totals};
 use reference::{Answer, Call};
 use std::fmt::Debug;
 
@@ -69,8 +69,22 @@ impl Lent {
         totals: &mut Totals,
     ) -> Result<Result<usize, u32>, String> {
         let act = |bytes: &mut [u8]| archive::sheet(bytes, table, totals);
-        let answer = self.watched(buntingraft::Call::Sheet, act)?;
+        let answer = self.asked(buntingraft::Call::Sheet, act)?;
         self.unchanged(answer)
+    }
+
+    /// Replays a journal, and gives the number of calls made, or why none was;
+    /// or what was wrong with it.
+    pub fn replay(
+        &mut self,
+        journal: &[u8],
+        table: &mut [Reply],
+    ) -> Result<Result<usize, NotReplayed>, String> {
+        let made = self.watched(|bytes| Book::lent(bytes).replay_into(journal, table))?;
+        if made.is_err() {
+            return self.unchanged(made);
+        }
+        Ok(made)
     }
 
     /// Makes a call that an answer tells of.
@@ -79,7 +93,7 @@ impl Lent {
         kind: buntingraft::Call,
         act: impl FnOnce(&mut [u8]) -> Result<Answer, Refusal>,
     ) -> Result<Answer, String> {
-        let answer = self.watched(kind, act)?.unwrap_or_else(Answer::Refused);
+        let answer = self.asked(kind, act)?.unwrap_or_else(Answer::Refused);
         if leaves_the_book(&answer) {
             self.unchanged(answer)
         } else {
@@ -87,18 +101,23 @@ impl Lent {
         }
     }
 
-    /// Acts on the lent bytes, and holds that to what is owed to those around
-    /// the book.
-    fn watched<T: Debug>(
+    /// Makes a call, whose refusal has a number that it asks with.
+    fn asked<T: Debug>(
         &mut self,
         kind: buntingraft::Call,
         act: impl FnOnce(&mut [u8]) -> Result<T, Refusal>,
     ) -> Result<Result<T, u32>, String> {
+        match self.watched(act)? {
+            Ok(answer) => Ok(Ok(answer)),
+            Err(refusal) => Ok(Err(number_in_table(kind, refusal)?)),
+        }
+    }
+
+    /// Acts on the lent bytes, and holds that to what is owed to those around
+    /// the book.
+    fn watched<T: Debug>(&mut self, act: impl FnOnce(&mut [u8]) -> T) -> Result<T, String> {
         self.before.copy_from_slice(&self.memory);
-        let answer = match act(self.bytes_mut()) {
-            Ok(answer) => Ok(answer),
-            Err(refusal) => Err(number_in_table(kind, refusal)?),
-        };
+        let answer = act(self.bytes_mut());
         let behind = self.memory.len().min(GUARD + LENGTH);
         if self.memory[..GUARD] != self.before[..GUARD] {
             return Err(format!("{answer:?}, and bytes before the book changed"));

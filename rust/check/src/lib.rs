@@ -4,6 +4,7 @@
 //!
 //! - [`twin`], [`lent`], [`layout`]: lent memory and the reference's book side by side.
 //! - [`sheet`], [`lendings`]: the balance sheet of both, and what it is lent.
+//! - [`journal`], [`replay`]: a list of calls as bytes, replayed by the archive.
 //! - [`run`], [`ledger`]: a list of calls under way, and demand 3 over it.
 //! - [`directed`], [`memory`], [`lists`]: the cases, memory and lists tried.
 //! - [`coverage`]: what of it all was reached.
@@ -15,6 +16,7 @@ pub mod coverage;
 pub mod directed;
 pub mod draft;
 pub mod generator;
+pub mod journal;
 pub mod layout;
 pub mod ledger;
 pub mod lendings;
@@ -25,6 +27,7 @@ pub mod naming;
 pub mod numbers;
 pub mod orders;
 pub mod probe;
+pub mod replay;
 pub mod run;
 pub mod sheet;
 pub mod stages;

@@ -1,8 +1,9 @@
 //! Random lists of calls, each on a book that starts empty, with both books
-//! compared and probed after every call.
+//! compared and probed after every call, and the whole list replayed at its end.
 
 use crate::coverage::Coverage;
 use crate::generator::Generator;
+use crate::numbers::Numbers;
 use crate::run::Run;
 use std::ops::Range;
 
@@ -24,5 +25,6 @@ fn check_list(seed: u64, list: u64, coverage: &mut Coverage) {
         let _ = run.sheet(&generator.lending(run.book()));
         run.probe(&generator.probes(&call, run.book()));
     }
+    run.replay(&mut Numbers::of(seed.rotate_left(32), list));
     run.coverage.lists += 1;
 }

@@ -5,6 +5,8 @@
 use crate::coverage::Coverage;
 use crate::layout::LENGTH;
 use crate::ledger::Ledger;
+use crate::numbers::Numbers;
+use crate::replay;
 use crate::sheet::{Lending, Taken};
 use crate::telling::{end_with, told};
 use crate::twin::Twin;
@@ -110,6 +112,16 @@ impl<'a> Run<'a> {
             self.made.pop();
             let difference = format!("both answer {answer:?}, not {expected:?}");
             self.differs(&told(&call), &difference);
+        }
+    }
+
+    /// Replays the list so far from its beginning, as a journal, and near
+    /// misses of that.
+    pub fn replay(&mut self, numbers: &mut Numbers) {
+        let after = self.twin.lent.bytes();
+        let replayed = replay::check_list(&self.made, after, numbers, self.coverage);
+        if let Err(difference) = replayed {
+            self.differs("replay", &difference);
         }
     }
 

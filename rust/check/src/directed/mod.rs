@@ -1,5 +1,5 @@
 //! Cases taken from the papers one by one: every question and every two, every
-//! boundary, every refusal, full books, sheets, ZS1 and the field engineer's
+//! boundary, every refusal, full books, sheets, journals, ZS1 and the field engineer's
 //! card.
 
 mod bytes;
@@ -9,6 +9,7 @@ mod fields;
 mod full;
 mod questions;
 mod refusals;
+mod replay;
 mod sheet;
 
 use crate::coverage::Coverage;
@@ -22,5 +23,6 @@ pub fn check(coverage: &mut Coverage) {
     refusals::check(coverage);
     full::check(coverage);
     sheet::check(coverage);
+    replay::check(coverage);
     card::check(coverage);
 }
