@@ -331,7 +331,7 @@ struct buntingraft_reply buntingraft_sheet(const uint8_t *book, size_t book_leng
  *     9  return            route, money; id
  *
  * A number that an entry does not have is 0, a text that it does not have is empty, and those that its call does not take are
- * passed over.
+ * passed over. A later edition may take them: write none that are not taken.
  *
  * `answers` is `places` replies, lent as the book is (the pointer not null, even where `places` is 0) and aligned as their
  * type asks. Its first are the replies of the journal's calls, refused ones included; those behind them stay as they are.

@@ -5,7 +5,7 @@
 --     2        how many texts
 --     3        the numbers, eight bytes each; then the lengths of the texts, eight bytes each; then the texts, one behind the other
 -- A call takes its numbers and texts by place. A number that an entry does not have is 0, a text that it does not have is empty, and those that its
--- call does not take are passed over: so what a later call takes has the next place, and no journal that stands changes its meaning.
+-- call does not take are passed over: so what a call takes later has the next place, and a journal without more than its calls take means the same then.
 use mathlib.Core.Bool.{Bool, cond, _&&_}
 use mathlib.Core.List.{List, [], _∷_}
 use Prim.Native.Nat.{ℕ, zero, suc, _+_, _*_}

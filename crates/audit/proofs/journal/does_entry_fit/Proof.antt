@@ -1,6 +1,5 @@
 -- `audit::journal::does_entry_fit`: the three bytes, the numbers and lengths, the texts, and then the call.
 use mathlib.Core.Path.{_∙_}
-use native.Mathlib.Omega.{arith}
 use Rattle.audit.proofs.JournalLaws.{no-bytes, no-fields, no-texts, then-the-call}
 use borrow.Author.Needs.{needs}
 use Rattle.audit.proofs.journal.does_entry_fit.Statement.{statement}
