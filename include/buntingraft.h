@@ -330,8 +330,8 @@ struct buntingraft_reply buntingraft_sheet(const uint8_t *book, size_t book_leng
  *     8  withdraw          order; id
  *     9  return            route, money; id
  *
- * A number that an entry does not have is 0, a text that it does not have is empty, and those that its call does not take are
- * passed over. A later edition may take them: write none that are not taken.
+ * A number that an entry does not have is 0, and a text that it does not have is empty. An entry has no more than its call
+ * takes, so that every journal of this edition means the same in one that takes more.
  *
  * `answers` is `places` replies, lent as the book is (the pointer not null, even where `places` is 0) and aligned as their
  * type asks. Its first are the replies of the journal's calls, refused ones included; those behind them stay as they are.
@@ -340,7 +340,7 @@ struct buntingraft_reply buntingraft_sheet(const uint8_t *book, size_t book_leng
  * Not replayed: why, 0; no call was made, and every byte of the book and of the table is as it was:
  *
  *     1  the journal is not whole entries: one is cut off, there are more or fewer than it says, one has a call that there is
- *        not, or a return has such a route or money
+ *        not or more than its call takes, or a return has such a route or money
  *     2  the table has fewer places than the journal has entries
  *     3  the book's memory is not long enough, or no sound book without shipments
  */

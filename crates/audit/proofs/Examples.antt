@@ -10,7 +10,7 @@ use Rattle.text.specs.Quoted.{bytes}
 use Rattle.epe.specs.Ident.{identifier, identOf}
 use Rattle.model.specs.Calls.{Pair, Transfer, On}
 use Rattle.memory.specs.Number.{numberAt}
-use Rattle.audit.specs.Journal.{entryNumber, textLength, textStart, actIn, callIn, entryLength, callKnown, entryFits, entriesFit, callsFrom, journalFits, callsIn}
+use Rattle.audit.specs.Journal.{entryNumber, textLength, textStart, actIn, callIn, entryLength, isCall, numbersTaken, textsTaken, hasNoMore, callKnown, entryFits, entriesFit, callsFrom, journalFits, callsIn}
 
 journal : List ℕ
 journal =
@@ -23,16 +23,21 @@ unfolding journal callsIn callsFrom callIn actIn entryNumber textLength textStar
 calls-are-read = refl
 
 fits : journalFits journal ≡ true
-unfolding journal journalFits entriesFit entryFits callKnown entryLength textStart textLength numberAt
+unfolding journal journalFits entriesFit entryFits callKnown isCall hasNoMore numbersTaken textsTaken entryLength textStart textLength numberAt
 fits = refl
 
 one-byte-more : journalFits (journal ++ (0 ∷ [])) ≡ false
-unfolding journal journalFits entriesFit entryFits callKnown entryLength textStart textLength numberAt
+unfolding journal journalFits entriesFit entryFits callKnown isCall hasNoMore numbersTaken textsTaken entryLength textStart textLength numberAt
 one-byte-more = refl
 
 one-byte-less : journalFits (take 60 journal) ≡ false
-unfolding journal journalFits entriesFit entryFits callKnown entryLength textStart textLength numberAt
+unfolding journal journalFits entriesFit entryFits callKnown isCall hasNoMore numbersTaken textsTaken entryLength textStart textLength numberAt
 one-byte-less = refl
+
+-- a pairing takes no number
+more-than-is-taken : journalFits ((1 ∷ replicate 7 0) ++ (3 ∷ 1 ∷ 1 ∷ replicate 8 0) ++ (3 ∷ replicate 7 0) ++ bytes "ZS1") ≡ false
+unfolding journalFits entriesFit entryFits callKnown isCall hasNoMore numbersTaken textsTaken entryLength textStart textLength numberAt
+more-than-is-taken = refl
 
 whole : length journal ≡ 61
 unfolding journal

@@ -20,7 +20,7 @@ use Rattle.model.specs.Calls.{GoAhead, Pair, Close, OnOrder, Return, Intake, Tr
 use Rattle.model.specs.declared.Deed.the-variants.{Post, Pay, MarkUndelivered, Withdraw}
 use Rattle.model.specs.declared.Route.{Route}
 use Rattle.book.specs.Numbers.{routeOf, moneyOf}
-use Rattle.audit.specs.Journal.{callByte, entryNumber, entryText, profileIn, actIn, callIn, entryLength, callKnown, entryFits}
+use Rattle.audit.specs.Journal.{callByte, entryNumber, entryText, profileIn, actIn, callIn, entryLength, isCall, hasNoMore, callKnown, entryFits}
 
 -- fees that are none spoil a profile
 pub unfit : (profile : Profile) → feesFit (profile .fees) ≡ false → profileFits profile ≡ false
@@ -34,9 +34,9 @@ unfit profile h = by (real (profile .today .0)) (eqb (length (profile .fees)) 5)
 
 -- a whole entry has one of the calls
 pub call-known : (entry : List ℕ) → entryFits entry ≡ true → callByte entry ≤ 9
-unfolding entryFits callKnown
+unfolding entryFits callKnown isCall
 call-known entry fits =
-    let known = and-right (leb (entryLength entry) (length entry)) (callKnown entry) fits in
+    let known = and-right (hasNoMore entry) (isCall entry) (and-right (leb (entryLength entry) (length entry)) (callKnown entry) fits) in
     either-way (eqb (callByte entry) 9)
     (λ return. omega (arith, eqb-true (callByte entry) 9 return))
     (λ other. omega (arith, leb-true (callByte entry) 8 (rw other at known)))

@@ -4,8 +4,8 @@
 --     1        how many numbers it has
 --     2        how many texts
 --     3        the numbers, eight bytes each; then the lengths of the texts, eight bytes each; then the texts, one behind the other
--- A call takes its numbers and texts by place. A number that an entry does not have is 0, a text that it does not have is empty, and those that its
--- call does not take are passed over: so what a call takes later has the next place, and a journal without more than its calls take means the same then.
+-- A call takes its numbers and texts by place. A number that an entry does not have is 0, a text that it does not have is empty, and it has no more than
+-- its call takes: so what a call takes later has the next place, and every journal of today means the same then.
 use mathlib.Core.Bool.{Bool, cond, _&&_}
 use mathlib.Core.List.{List, [], _∷_}
 use Prim.Native.Nat.{ℕ, zero, suc, _+_, _*_}
@@ -74,12 +74,26 @@ callIn entry =
     cond (eqb (callByte entry) 0) (Intake (profileIn entry) (entryText entry 0) (entryText entry 1))
     (cond (eqb (callByte entry) 1) (Transfer (entryText entry 0) (entryNumber entry 0)) (On (identOf (entryText entry 0)) (actIn entry)))
 
--- An entry is whole where all of it is there, up to the end of its last text, and its call is among those above; a return's route and money too.
+-- An entry is whole where all of it is there, up to the end of its last text, it has no more than its call takes, and its call is among those above; a
+-- return's route and money too.
 unfoldable pub entryLength : List ℕ → ℕ
 entryLength entry = textStart entry (textsOf entry)
 
+unfoldable pub isCall : List ℕ → Bool
+isCall entry = cond (eqb (callByte entry) 9) (areKnown (entryNumber entry 0) (entryNumber entry 1)) (leb (callByte entry) 8)
+
+-- How many numbers and texts a call takes, and that an entry has no more.
+unfoldable pub numbersTaken : ℕ → ℕ
+numbersTaken call = cond (eqb call 0) 7 (cond (eqb call 1) 1 (cond (leb call 4) 0 (cond (leb call 8) 1 2)))
+
+unfoldable pub textsTaken : ℕ → ℕ
+textsTaken call = cond (eqb call 0) 2 1
+
+unfoldable pub hasNoMore : List ℕ → Bool
+hasNoMore entry = leb (numbersOf entry) (numbersTaken (callByte entry)) && leb (textsOf entry) (textsTaken (callByte entry))
+
 unfoldable pub callKnown : List ℕ → Bool
-callKnown entry = cond (eqb (callByte entry) 9) (areKnown (entryNumber entry 0) (entryNumber entry 1)) (leb (callByte entry) 8)
+callKnown entry = hasNoMore entry && isCall entry
 
 unfoldable pub entryFits : List ℕ → Bool
 entryFits entry = leb (entryLength entry) (length entry) && callKnown entry

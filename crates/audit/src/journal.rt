@@ -12,7 +12,7 @@ ghost use Prim.Native.Nat.{_+_, _≤_, _<_, min};
 ghost use lib.ListN.{length, getD};
 ghost use Rattle.epe.specs.Profile.{asFees, feesFit};
 ghost use Rattle.audit.specs.Journal.{entryNumber, lengthsStart, textsStart, textLength, textStart, entryText};
-ghost use Rattle.audit.specs.Journal.{feesIn, profileIn, entryLength, callKnown, entryFits, entriesFit, journalFits};
+ghost use Rattle.audit.specs.Journal.{feesIn, profileIn, entryLength, isCall, numbersTaken, textsTaken, hasNoMore, callKnown, entryFits, entriesFit, journalFits};
 
 // A byte as a number.
 fn wide(byte: u8) -> usize
@@ -122,10 +122,53 @@ pub fn profile_in(entry: &[u8]) -> Profile
     }
 }
 
-// Is the call one that there is?
+// How many numbers a call takes.
+fn numbers_taken(call: u8) -> usize
+    ensures { λ r. ⌜ r ≡ numbersTaken call ⌝ }
+{
+    if call == 0 {
+        return 7;
+    }
+    if call == 1 {
+        return 1;
+    }
+    if call <= 4 {
+        return 0;
+    }
+    if call <= 8 {
+        return 1;
+    }
+    2
+}
+
+// How many texts a call takes.
+fn texts_taken(call: u8) -> usize
+    ensures { λ r. ⌜ r ≡ textsTaken call ⌝ }
+{
+    if call == 0 { 2 } else { 1 }
+}
+
+// Has the entry no more numbers and texts than its call takes?
+fn has_no_more(entry: &[u8]) -> bool
+    requires { ⌜ textsStart (now entry) ≤ length (now entry) ⌝ }
+    ensures { λ r. ⌜ r ≡ hasNoMore (now (entry .entry)) ⌝ }
+{
+    let call = entry[0];
+    count_at(entry, 1) <= numbers_taken(call) && count_at(entry, 2) <= texts_taken(call)
+}
+
+// Is the call one that there is, and has it no more than it takes?
 fn is_call_known(entry: &[u8]) -> bool
     requires { ⌜ textsStart (now entry) ≤ length (now entry) ⌝ }
     ensures { λ r. ⌜ r ≡ callKnown (now (entry .entry)) ⌝ }
+{
+    has_no_more(entry) && is_call(entry)
+}
+
+// Is the call one that there is?
+fn is_call(entry: &[u8]) -> bool
+    requires { ⌜ textsStart (now entry) ≤ length (now entry) ⌝ }
+    ensures { λ r. ⌜ r ≡ isCall (now (entry .entry)) ⌝ }
 {
     if entry[0] == 9 {
         return are_known(entry_number(entry, 0), entry_number(entry, 1));

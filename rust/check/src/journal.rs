@@ -7,6 +7,7 @@ use reference::{Call, Money, Profile, Route};
 const COUNT: usize = 8;
 
 /// An entry before it is bytes: its call, its numbers and its texts.
+#[derive(Clone)]
 pub struct Entry {
     call: u8,
     numbers: Vec<u64>,
@@ -48,7 +49,7 @@ impl Entry {
     }
 
     /// The same call said otherwise: what is 0 or empty at the end is now and
-    /// then left out, and something that no call takes put behind.
+    /// then left out.
     pub fn varied(mut self, numbers: &mut Numbers) -> Entry {
         while self.numbers.last() == Some(&0) && numbers.one_in(2) {
             self.numbers.pop();
@@ -56,12 +57,17 @@ impl Entry {
         while self.texts.last().is_some_and(Vec::is_empty) && numbers.one_in(2) {
             self.texts.pop();
         }
-        if numbers.one_in(8) {
-            self.numbers.resize(7, 0);
+        self
+    }
+
+    /// The entry with one number, or one text, more than its call takes.
+    pub fn overfull(mut self, numbers: &mut Numbers) -> Entry {
+        let (most_numbers, most_texts) = most(self.call);
+        if numbers.one_in(2) {
+            self.numbers.resize(most_numbers, 0);
             self.numbers.push(numbers.any());
-        }
-        if numbers.one_in(8) {
-            self.texts.resize(2, Vec::new());
+        } else {
+            self.texts.resize(most_texts, Vec::new());
             self.texts.push(vec![b'Z'; numbers.below(20)]);
         }
         self
@@ -107,6 +113,16 @@ fn number(bytes: &mut &[u8]) -> Option<u64> {
     Some(u64::from_le_bytes(front))
 }
 
+/// How many numbers and texts a call takes.
+fn most(call: u8) -> (usize, usize) {
+    match call {
+        0 => (7, 2),
+        2..=4 => (0, 1),
+        9 => (2, 1),
+        _ => (1, 1),
+    }
+}
+
 /// Takes an entry from the front, and gives its call.
 fn call(bytes: &mut &[u8]) -> Option<Call> {
     let &[call, numbers, texts] = taken(bytes, 3)? else {
@@ -120,6 +136,10 @@ fn call(bytes: &mut &[u8]) -> Option<Call> {
     let (numbers, lengths) = (all(numbers)?, all(texts)?);
     let texts = lengths.iter().map(|length| taken(bytes, *length));
     let texts = texts.collect::<Option<Vec<_>>>()?;
+    let (most_numbers, most_texts) = most(call);
+    if numbers.len() > most_numbers || texts.len() > most_texts {
+        return None;
+    }
     let number = |place: usize| numbers.get(place).copied().unwrap_or(0);
     let text = |place: usize| texts.get(place).map_or(Vec::new(), |text| text.to_vec());
     let (identifier, order) = (text(0), number(0));

@@ -133,6 +133,10 @@ pub fn check_list(
     ];
     if count > 0 {
         misses.push(recounted(&journal, count as u64 - 1));
+        let mut overfull = entries.clone();
+        let at = numbers.below(count);
+        overfull[at] = overfull[at].clone().overfull(numbers);
+        misses.push(written(&overfull));
         check_places(&journal, count - 1..count, coverage)?;
     }
     if count < made.len() {
