@@ -13,7 +13,7 @@ use Rattle.money.specs.declared.Money.{Money}
 use Rattle.epe.specs.Questions.{Question, _elseNo_, asked}
 use Rattle.epe.specs.Name.{nameQuestions, titleQuestions, titleOf}
 use Rattle.epe.specs.Opening.{fileQuestions, fixedQuestions, repeatedQuestions, openingQuestions}
-use Rattle.epe.specs.Contents.{dateQuestions, statedQuestions, recordQuestions, contentsQuestions, orders}
+use Rattle.contents.specs.Contents.{dateQuestions, statedQuestions, recordQuestions, contentsQuestions, orders}
 use Rattle.epe.specs.declared.profile.Profile.{Profile}
 use Rattle.model.specs.Shipment.{Shipment}
 use Rattle.model.specs.Calls.{Act, GoAhead, Pair, Close, OnOrder, Return, Call, Intake, Transfer, On}

@@ -7,10 +7,10 @@ use native.Mathlib.Numerals.{add-one}
 use native.Mathlib.Omega.{arith}
 use lib.ListN.{getD, set, length-set}
 use lib.Seq.{getD-set-same, getD-set-other}
-use Rattle.epe.specs.Accepted.{OrderInRange, EachInRange}
-use Rattle.epe.specs.Kept.{orderIn, ordersIn}
+use Rattle.contents.specs.Accepted.{OrderInRange, EachInRange}
+use Rattle.contents.specs.Kept.{orderIn, ordersIn}
 use Rattle.epe.specs.declared.name.Name.{Name}
-use Rattle.epe.specs.declared.record.Order.{Order}
+use Rattle.contents.specs.declared.record.Order.{Order}
 use Rattle.model.specs.Book.{enteredRow, newShipment, rowsIn}
 use Rattle.memory.specs.Layout.{headBytes, rowBytes}
 use Rattle.memory.specs.States.{lastFault}

@@ -12,20 +12,20 @@ use Rattle.text.proofs.Branches.{and-left, and-right, either-way}
 use Rattle.epe.specs.Name.{nameOf, nameInForm}
 use Rattle.epe.specs.Profile.{profileFits}
 use Rattle.epe.specs.Opening.{openingQuestions, opening, openingOf}
-use Rattle.epe.specs.Contents.{contentsQuestions, contents, orders, faultyCount, judgedOf}
-use Rattle.epe.specs.Steps.{noneKept, Records, statedOf, recordsBehind}
-use Rattle.epe.specs.Accepted.{EachInRange}
-use Rattle.epe.specs.Kept.{ordersIn, keptFrom}
+use Rattle.contents.specs.Contents.{contentsQuestions, contents, orders, faultyCount, judgedOf}
+use Rattle.contents.specs.Steps.{noneKept, Records, statedOf, recordsBehind}
+use Rattle.contents.specs.Accepted.{EachInRange}
+use Rattle.contents.specs.Kept.{ordersIn, keptFrom}
 use Rattle.epe.specs.declared.file.Opening.{Opening}
-use Rattle.epe.specs.declared.file.Judged.the-variants as judged
+use Rattle.contents.specs.declared.judge.Judged.the-variants as judged
 use Rattle.epe.specs.declared.name.Name.{Name}
 use Rattle.epe.specs.declared.profile.Profile.{Profile}
-use Rattle.epe.specs.declared.record.Order.{Order}
+use Rattle.contents.specs.declared.record.Order.{Order}
 use Rattle.epe.specs.declared.verdict.Verdict.{Verdict}
 use Rattle.epe.specs.declared.verdict.Verdict.the-variants.{Passed, Refused as No}
-use Rattle.epe.proofs.AcceptedAsStated.{accepted-as-stated}
-use Rattle.epe.proofs.Judging.{two-steps-are-contents}
-use Rattle.epe.proofs.Keeping.{kept-in-order}
+use Rattle.contents.proofs.AcceptedAsStated.{accepted-as-stated}
+use Rattle.contents.proofs.TwoStepsAreContents.{two-steps-are-contents}
+use Rattle.contents.proofs.KeptInOrder.{kept-in-order}
 use Rattle.epe.proofs.QuestionLaws.{asked-no, asked-yes, asked-none, asked-behind, asked-before}
 use Rattle.model.specs.Shipment.{mostShipments, mostRows, Shipment}
 use Rattle.model.specs.Calls.{Call, Intake, Answer, Refused, Accepted}

@@ -6,8 +6,8 @@ use Prim.Native.Nat.{ℕ, _+_, _-_, _≤_, _<_, _^_}
 use lib.ListN.{length, getD}
 use Rattle.epe.specs.Questions.{Question, asked}
 use Rattle.epe.specs.Name.{nameInForm}
-use Rattle.epe.specs.Accepted.{EachInRange}
-use Rattle.epe.specs.Kept.{orderIn, ordersIn}
+use Rattle.contents.specs.Accepted.{EachInRange}
+use Rattle.contents.specs.Kept.{orderIn, ordersIn}
 use Rattle.epe.specs.declared.name.Name.{Name}
 use Rattle.model.specs.Shipment.{mostShipments, mostRows, Shipment}
 use Rattle.model.specs.Calls.{Call, Answer, Accepted}

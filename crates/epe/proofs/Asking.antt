@@ -1,11 +1,11 @@
 -- Questions asked one after the other, each with an early return: `search asking depth 24` closes such a return, where the list of questions unfolds.
 -- Assumes nothing.
 use mathlib.Core.Path.{_≡_, refl, sym, _∙_}
-use mathlib.Core.Bool.{Bool, true, false, true≢false, cond, not}
+use mathlib.Core.Bool.{Bool, true, false, true≢false}
 use mathlib.Core.List.{List, [], _∷_, _++_}
 use Prim.Native.Nat.{ℕ, _<_}
 use native.Mathlib.Omega.{arith}
-use Rattle.text.proofs.Branches.{told, told-yes, told-no}
+use Rattle.text.proofs.Branches.{told-yes, told-no}
 use Rattle.epe.specs.Questions.{Question, _elseNo_, firstNo, isPassed, asked}
 use Rattle.epe.specs.declared.verdict.Verdict.{Verdict}
 use Rattle.epe.specs.declared.verdict.Verdict.the-variants.{Passed, Refused}

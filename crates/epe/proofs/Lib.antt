@@ -3,13 +3,7 @@ pub mod Asking
 pub mod IdentLaws
 pub mod ProfileLaws
 pub mod NameLaws
-pub mod Lines
-pub mod RecordLaws
+pub mod FieldsByTable
 pub mod FieldLengths
-pub mod Walking
-pub mod Judging
-pub mod AcceptedAsStated
-pub mod Keeping
-pub mod Examples
+pub mod LineWalk
 pub mod NameExamples
-pub mod RecordExamples

@@ -1,4 +1,4 @@
--- Five fees, judged one by one.
+-- Five fees, judged one by one, and what a profile that fits allows.
 -- Assumes nothing.
 use mathlib.Core.Path.{_≡_, refl, _∙_, ap}
 use mathlib.Core.Bool.{Bool, true, false, _&&_}
@@ -7,10 +7,14 @@ use Prim.Native.Nat.{ℕ, zero, suc, _≤_}
 use native.Mathlib.Omega.{arith}
 use borrow.Author.Tests.{leb-true, lt-leb, leb-false}
 use lib.ListN.{length, getD}
+use lib.Dec.{eqb, leb}
+use Rattle.text.specs.Bytes.{between}
 use Rattle.text.proofs.Branches.{and-left, and-right}
 use Rattle.money.specs.Money.{fee, orderCap, isOrderFee, isSum}
 use Rattle.money.specs.declared.Fee.{Fee}
-use Rattle.epe.specs.Profile.{asFees, feesFit}
+use Rattle.calendar.specs.Calendar.{real}
+use Rattle.epe.specs.Profile.{asFees, feesFit, profileFits}
+use Rattle.epe.specs.declared.profile.Profile.{Profile}
 
 listed : {A : Type 0} (xs : List A) (none : A) → length xs ≡ 5
     → xs ≡ getD xs 0 none ∷ getD xs 1 none ∷ getD xs 2 none ∷ getD xs 3 none ∷ getD xs 4 none ∷ []
@@ -61,3 +65,12 @@ fee-within (n ∷ numbers) (suc i) h = fee-within numbers i (and-right (isOrderF
 -- what is no sum is no fee
 pub no-sum-no-fee : (n : ℕ) → isSum n ≡ false → false ≡ isOrderFee n
 no-sum-no-fee n h = rw (lt-leb n orderCap (omega (arith, leb-false n _ h)))
+
+-- a profile that fits has at most 32 fields to a record
+pub fields-allowed : (profile : Profile) → profileFits profile ≡ true → profile .fields ≤ 32
+unfolding profileFits
+fields-allowed profile h =
+    let fees = eqb (length (profile .fees)) 5 && feesFit (profile .fees) in
+    let fields = between 19 32 (profile .fields) in
+    let last = and-right fees fields (and-right (real (profile .today .0)) (fees && fields) h) in
+    leb-true (profile .fields) 32 (and-right (leb 19 (profile .fields)) (leb (profile .fields) 32) last)

@@ -1,15 +1,10 @@
+-- In the order in which to read them.
 pub mod Questions
 pub mod Ident
-pub mod Profile
 pub mod Name
+pub mod Profile
 pub mod File
-pub mod Cut
 pub mod Opening
 pub mod Lengths
-pub mod Faults
-pub mod Contents
-pub mod Accepted
-pub mod Kept
-pub mod Steps
-pub mod Walk
-pub mod Tally
+-- What a buyer need not read.
+pub mod Inner

@@ -1,7 +1,7 @@
 -- "The name is `EPEZ` + identifier, yymmdd, A or B, kind 0 to 4, joined by hyphens." And the title of a transfer.
 use mathlib.Core.Path.{_≡_}
 use mathlib.Core.Bool.{Bool, true, cond, _&&_, _||_}
-use mathlib.Core.List.{List, [], _∷_, _++_}
+use mathlib.Core.List.{List, [], _∷_}
 use Prim.Native.Nat.{ℕ, _+_, _-_}
 use lib.Dec.{eqb, leb}
 use lib.ListN.{length, getD, take, drop}
@@ -9,7 +9,6 @@ use Rattle.text.specs.Bytes.{same}
 use Rattle.text.specs.Quoted.{bytes}
 use Rattle.text.specs.Number.{number, isNumber, valueOf}
 use Rattle.text.specs.Fields.{fields}
-use Rattle.money.specs.declared.Money.{Money}
 use Rattle.money.specs.declared.Money.the-variants.{K, O}
 use Rattle.calendar.specs.Calendar.{real}
 use Rattle.epe.specs.Questions.{Question, _elseNo_, firstNo, isPassed}

@@ -1,7 +1,7 @@
 -- The opening of an intake: the file's first questions, those of its name, and the header's fields that the name repeats.
 -- Header fields: 1 mark, 2 sender, 3 file code, 4 edition, 5 identifier, 6 unit, 7 created, 8 benefit date, 9 payment kind, 10 benefit kind,
 -- 11 order count, 12 sum.
-use mathlib.Core.Bool.{Bool, not, _&&_}
+use mathlib.Core.Bool.{not, _&&_}
 use mathlib.Core.List.{List, [], _∷_, _++_}
 use Prim.Native.Nat.{ℕ}
 use lib.Dec.{ltb, eqb}

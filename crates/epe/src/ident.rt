@@ -19,13 +19,6 @@ pub struct Ident {
     pub len: usize,
 }
 
-// Are both bytes letters?
-fn are_letters(a: u8, b: u8) -> bool
-    ensures { λ r. ⌜ r ≡ (letter a && letter b) ⌝ }
-{
-    is_letter(a) && is_letter(b)
-}
-
 // Is the text an identifier?
 pub fn is_identifier(s: &[u8]) -> bool
     ensures { λ r. ⌜ r ≡ identifier (now (s .entry)) ⌝ }
@@ -33,19 +26,6 @@ pub fn is_identifier(s: &[u8]) -> bool
     let n = s.len();
     is_between(3, 17, n as u64)
         && (are_letters(byte_at(s, 0), byte_at(s, 1)) && are_letters_or_digits(rest(s, 2)))
-}
-
-// The first 17 bytes of a text, with zeros where it has fewer.
-fn padded(s: &[u8]) -> [u8; 17]
-    ensures { λ r. ⌜ r ≡ take 17 (now (s .entry) ++ replicate 17 0) ⌝ }
-{
-    let mut bytes = [0u8; 17];
-    let mut i = 0;
-    while i < 17 {
-        bytes[i] = byte_at(s, i);
-        i += 1;
-    }
-    bytes
 }
 
 // The text as an identifier is held; no bytes where it is none.
@@ -72,4 +52,24 @@ pub fn is_same(a: Ident, b: Ident) -> bool
     let first = a.bytes;
     let second = b.bytes;
     a.len == b.len && equal(&first, &second)
+}
+
+// Are both bytes letters?
+fn are_letters(a: u8, b: u8) -> bool
+    ensures { λ r. ⌜ r ≡ (letter a && letter b) ⌝ }
+{
+    is_letter(a) && is_letter(b)
+}
+
+// The first 17 bytes of a text, with zeros where it has fewer.
+fn padded(s: &[u8]) -> [u8; 17]
+    ensures { λ r. ⌜ r ≡ take 17 (now (s .entry) ++ replicate 17 0) ⌝ }
+{
+    let mut bytes = [0u8; 17];
+    let mut i = 0;
+    while i < 17 {
+        bytes[i] = byte_at(s, i);
+        i += 1;
+    }
+    bytes
 }

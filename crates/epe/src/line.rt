@@ -5,7 +5,7 @@ ghost use lib.Dec.{eqb};
 ghost use lib.ListN.{length};
 ghost use Rattle.text.specs.Fields.{fields};
 ghost use Rattle.epe.specs.File.{field};
-ghost use Rattle.epe.specs.Cut.{CutOf};
+ghost use Rattle.epe.specs.Inner.Cut.{CutOf};
 
 // The byte that parts fields.
 pub const BAR: u8 = b'|';

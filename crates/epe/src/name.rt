@@ -13,7 +13,7 @@ ghost use Rattle.money.specs.declared.Money.the-variants.{K, O};
 ghost use Rattle.epe.specs.Questions.{firstNo, isPassed};
 ghost use Rattle.epe.specs.Ident.{identifier};
 ghost use Rattle.epe.specs.Name.{namePart, nameIdent, nameDate, nameQuestions, nameOf, titleName, titleEnding, titleQuestions, titleOf};
-ghost use Rattle.epe.specs.Cut.{PartsCut};
+ghost use Rattle.epe.specs.Inner.Cut.{PartsCut};
 use crate::ident::Ident;
 use crate::ident::ident_of;
 use crate::ident::is_identifier;

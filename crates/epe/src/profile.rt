@@ -18,14 +18,14 @@ pub struct Profile {
     pub fields: u64,
 }
 
-// Is a number a fee?
-fn is_fee(number: u64) -> bool
-    ensures { λ r. ⌜ r ≡ isOrderFee number ⌝ }
+// Is the profile within its ranges?
+pub fn profile_fits(profile: Profile) -> bool
+    ensures { λ r. ⌜ r ≡ profileFits profile ⌝ }
 {
-    if !Fee::is_sum(number) {
-        return false;
-    }
-    Fee::sum(number).is_order()
+    let today = profile.today;
+    let fees = profile.fees;
+    let fields = profile.fields;
+    is_real(today) && (fees_fit(fees) && is_between(19, 32, fields))
 }
 
 // Are five numbers fees?
@@ -63,12 +63,12 @@ fn fees_fit(fees: [Fee; 5]) -> bool
         & (second.is_order() & (third.is_order() & (fourth.is_order() & fifth.is_order())))
 }
 
-// Is the profile within its ranges?
-pub fn profile_fits(profile: Profile) -> bool
-    ensures { λ r. ⌜ r ≡ profileFits profile ⌝ }
+// Is a number a fee?
+fn is_fee(number: u64) -> bool
+    ensures { λ r. ⌜ r ≡ isOrderFee number ⌝ }
 {
-    let today = profile.today;
-    let fees = profile.fees;
-    let fields = profile.fields;
-    is_real(today) && (fees_fit(fees) && is_between(19, 32, fields))
+    if !Fee::is_sum(number) {
+        return false;
+    }
+    Fee::sum(number).is_order()
 }

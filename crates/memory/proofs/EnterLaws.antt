@@ -16,7 +16,7 @@ use Rattle.calendar.proofs.Parts.{parts-of}
 use Rattle.epe.specs.Ident.{identInForm}
 use Rattle.epe.specs.Name.{nameInForm}
 use Rattle.epe.specs.declared.name.Name.{Name}
-use Rattle.epe.specs.declared.record.Order.{Order}
+use Rattle.contents.specs.declared.record.Order.{Order}
 use Rattle.model.specs.Shipment.{mostShipments, mostRows}
 use Rattle.model.specs.Book.{enteredRow, newShipment}
 use Rattle.model.specs.Sound.{faultInRange}

@@ -6,7 +6,7 @@ use mathlib.Core.List.{List, [], _∷_, _++_}
 use Prim.Native.Nat.{ℕ, zero, suc, _/_, _%_}
 use lib.ListN.{replicate}
 use Rattle.epe.specs.declared.name.Name.{Name}
-use Rattle.epe.specs.declared.record.Order.{Order}
+use Rattle.contents.specs.declared.record.Order.{Order}
 use Rattle.model.specs.Book.{enteredRow, newShipment}
 use Rattle.model.specs.declared.Row.{Row}
 use Rattle.memory.specs.Layout.{headBytes, rowBytes, OnlyHead, OnlyRow}

@@ -20,9 +20,9 @@ use Rattle.epe.specs.Profile.{profileFits, feesFit}
 use Rattle.epe.specs.Name.{nameQuestions, nameOf, titleQuestions, titleOf}
 use Rattle.epe.specs.File.{marked}
 use Rattle.epe.specs.Opening.{fileQuestions, fixedQuestions, repeatedQuestions, openingQuestions, opening}
-use Rattle.epe.specs.Faults.{sized, empty, placed, housed, postcode, extra, spaced, unspaced, faultQuestions, faultOf}
-use Rattle.epe.specs.Contents.{dateQuestions, statedQuestions, shaped, allShaped, allPriced, total, recordQuestions, contentsQuestions, contents}
-use Rattle.epe.specs.Contents.{orderOf, orders, faultyCount}
+use Rattle.contents.specs.Faults.{sized, empty, placed, housed, postcode, extra, spaced, unspaced, faultQuestions, faultOf}
+use Rattle.contents.specs.Contents.{dateQuestions, statedQuestions, shaped, allShaped, allPriced, total, recordQuestions, contentsQuestions, contents}
+use Rattle.contents.specs.Contents.{orderOf, orders, faultyCount}
 use Rattle.model.specs.Shipment.{need, free, held, anyFaulty}
 use Rattle.model.specs.Calls.{Call, transferred, goneAhead, paired, closed, onOrder, waiting, waitingOrders, returnedBy, surplusReturned, acted}
 use Rattle.model.specs.Book.{Book, Step, sameName, entered, intakeQuestions, takenIn, transferredIn, step}

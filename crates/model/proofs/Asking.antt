@@ -9,7 +9,7 @@ use Rattle.money.specs.Money.{isTransfer}
 use Rattle.epe.specs.Questions.{_elseNo_}
 use Rattle.epe.specs.Name.{nameOf, titleQuestions, titleOf}
 use Rattle.epe.specs.Opening.{openingQuestions}
-use Rattle.epe.specs.Contents.{orders, faultyCount}
+use Rattle.contents.specs.Contents.{orders, faultyCount}
 use Rattle.epe.specs.declared.profile.Profile.{Profile}
 use Rattle.epe.proofs.QuestionLaws.{asked-either, yes-behind}
 use Rattle.model.specs.Shipment.{Shipment}

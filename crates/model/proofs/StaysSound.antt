@@ -18,15 +18,15 @@ use Rattle.epe.specs.Ident.{sameIdent}
 use Rattle.epe.specs.Name.{nameOf, nameQuestions, nameInForm, titleOf}
 use Rattle.epe.specs.Opening.{fileQuestions, fixedQuestions, repeatedQuestions, openingQuestions, opening}
 use Rattle.epe.specs.File.{header}
-use Rattle.epe.specs.Contents.{contentsQuestions, contents, orders}
-use Rattle.epe.specs.Accepted.{OrderInRange, EachInRange}
+use Rattle.contents.specs.Contents.{contentsQuestions, contents, orders}
+use Rattle.contents.specs.Accepted.{OrderInRange, EachInRange}
 use Rattle.epe.specs.Profile.{profileFits, feesFit}
 use Rattle.epe.specs.declared.ident.Ident.{Ident}
 use Rattle.epe.specs.declared.name.Name.{Name}
 use Rattle.epe.specs.declared.profile.Profile.{Profile}
-use Rattle.epe.specs.declared.record.Order.{Order}
+use Rattle.contents.specs.declared.record.Order.{Order}
 use Rattle.epe.specs.declared.verdict.Verdict.the-variants.{Passed}
-use Rattle.epe.proofs.AcceptedAsStated.{accepted-as-stated}
+use Rattle.contents.proofs.AcceptedAsStated.{accepted-as-stated}
 use Rattle.epe.proofs.NameLaws.{parts-in-form}
 use Rattle.epe.proofs.QuestionLaws.{asked-either, all-yes, all-yes-passed, yes-before, yes-behind}
 use Rattle.model.specs.Shipment.{mostShipments, mostRows, Shipment}

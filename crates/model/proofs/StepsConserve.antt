@@ -12,11 +12,11 @@ use Rattle.money.specs.declared.Money.{Money}
 use Rattle.money.specs.declared.Money.the-variants.{K, O}
 use Rattle.epe.specs.Ident.{sameIdent}
 use Rattle.epe.specs.Name.{nameOf, titleOf}
-use Rattle.epe.specs.Contents.{orders}
+use Rattle.contents.specs.Contents.{orders}
 use Rattle.epe.specs.declared.ident.Ident.{Ident}
 use Rattle.epe.specs.declared.name.Name.{Name}
 use Rattle.epe.specs.declared.profile.Profile.{Profile}
-use Rattle.epe.specs.declared.record.Order.{Order}
+use Rattle.contents.specs.declared.record.Order.{Order}
 use Rattle.epe.proofs.IdentLaws.{same-is-equal}
 use Rattle.model.specs.Shipment.{byMoney, Shipment, accepted, onlyIf, free, held, holds}
 use Rattle.model.specs.Calls.{Act, Call, Intake, Transfer, On, Answer, Refused, Accepted, isRefusal, Outcome, transferred, acted}

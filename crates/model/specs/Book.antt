@@ -10,12 +10,12 @@ use Rattle.epe.specs.Questions.{Question, _elseNo_, asked}
 use Rattle.epe.specs.Ident.{sameIdent}
 use Rattle.epe.specs.Name.{nameOf, titleQuestions, titleOf}
 use Rattle.epe.specs.Opening.{openingQuestions}
-use Rattle.epe.specs.Contents.{contentsQuestions, orders, faultyCount}
+use Rattle.contents.specs.Contents.{contentsQuestions, orders, faultyCount}
 use Rattle.epe.specs.Profile.{profileFits}
 use Rattle.epe.specs.declared.ident.Ident.{Ident}
 use Rattle.epe.specs.declared.name.Name.{Name}
 use Rattle.epe.specs.declared.profile.Profile.{Profile}
-use Rattle.epe.specs.declared.record.Order.{Order}
+use Rattle.contents.specs.declared.record.Order.{Order}
 use Rattle.model.specs.Shipment.{mostShipments, mostRows, noSums, Shipment, sumOver}
 use Rattle.model.specs.Calls.{Call, Intake, Transfer, On, Answer, Refused, Accepted, Outcome, transferred, acted}
 use Rattle.model.specs.declared.Row.{Row}

@@ -1,7 +1,7 @@
 -- `book::enter::take_in` asks the header, then the records.
 use mathlib.Core.Path.{refl, sym, ap, _∙_}
-use Rattle.epe.specs.declared.file.Stated.{Stated}
-use Rattle.epe.proofs.Judging.{two-steps-are-contents}
+use Rattle.contents.specs.declared.stated.Stated.{Stated}
+use Rattle.contents.proofs.TwoStepsAreContents.{two-steps-are-contents}
 use Rattle.book.proofs.IntakeActs.{contents-refused}
 use borrow.Author.Needs.{needs}
 use Rattle.book.proofs.enter.take_in.Statement.{statement}

@@ -1,8 +1,8 @@
 -- `book::enter::take_records` goes by the records, and enters the orders that were kept.
 use mathlib.Core.Path.{sym, ap, _∙_}
 use native.Mathlib.Omega.{arith}
-use Rattle.epe.specs.Steps.{recordsOf}
-use Rattle.epe.specs.declared.file.Stated.{Stated}
+use Rattle.contents.specs.Steps.{recordsOf}
+use Rattle.contents.specs.declared.stated.Stated.{Stated}
 use Rattle.book.proofs.IntakeActs.{kind-below, opened, counted, contents-accepted, records-refused}
 use borrow.Author.Needs.{needs}
 use Rattle.book.proofs.enter.take_records.Statement.{statement}

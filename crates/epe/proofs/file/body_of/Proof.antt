@@ -10,7 +10,7 @@ without-last-end-requires : tie.Need-without-last-end-requires
 without-last-end-requires c κs = search needs
 
 returns : tie.Need-returns
-returns c = cc
+returns c = rw (c .before .rest .ensures) at (c .without-last-end .ensures)
 
 pub body-of-spec : {M : Type 1} → statement M
 body-of-spec = tie.close (tie.spec rest-requires without-last-end-requires returns)

@@ -6,7 +6,7 @@ use Rattle.text.proofs.Branches.{told-no, told-yes}
 use Rattle.epe.specs.Questions.{Question, firstNo}
 use Rattle.epe.specs.Opening.{fileQuestions, openingQuestions, opening}
 use Rattle.epe.proofs.Asking.{join-no, join-yes}
-use Rattle.epe.proofs.Judging.{header-line}
+use Rattle.epe.proofs.LineWalk.{header-line}
 use Rattle.epe.proofs.file.judge_opening.Statement.{statement}
 use Rattle.epe.proofs.file.judge_opening.Tie as tie
 

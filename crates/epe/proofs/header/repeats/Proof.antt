@@ -10,7 +10,7 @@ field-is-requires : tie.Need-field-is-requires
 field-is-requires c κs = search needs
 
 returns : tie.Need-returns
-returns c = cc
+returns c = rw (c .before .name-part .ensures) at (c .field-is .ensures)
 
 pub repeats-spec : {M : Type 1} → statement M
 repeats-spec = tie.close (tie.spec name-part-requires field-is-requires returns)

@@ -13,7 +13,7 @@ is-dated-requires : tie.Need-is-dated-requires
 is-dated-requires c κs = search needs
 
 returns : tie.Need-returns
-returns c = cc
+returns c = rw (c .before .before .field-of .ensures, c .before .name-part .ensures) at (c .is-dated .ensures)
 
 pub repeats-date-spec : {M : Type 1} → statement M
 repeats-date-spec =

@@ -13,7 +13,7 @@ field-is-requires : tie.Need-field-is-requires
 field-is-requires c κs = search needs
 
 returns : tie.Need-returns
-returns c = cc
+returns c = rw (c .before .rest .ensures, c .before .before .name-part .ensures) at (c .field-is .ensures)
 
 pub repeats-ident-spec : {M : Type 1} → statement M
 repeats-ident-spec =

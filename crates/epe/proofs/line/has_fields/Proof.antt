@@ -1,6 +1,6 @@
 -- `epe::line::has_fields`: there is one field more than there are cuts, and the table holds 32.
 use native.Mathlib.Omega.{arith}
-use Rattle.epe.proofs.Lines.{count-at-most, fields-by-cut}
+use Rattle.epe.proofs.FieldsByTable.{count-at-most, fields-by-cut}
 use Rattle.epe.proofs.line.has_fields.Statement.{statement}
 use Rattle.epe.proofs.line.has_fields.Tie as tie
 

@@ -2,7 +2,7 @@
 use mathlib.Core.Path.{_∙_}
 use native.Mathlib.Omega.{arith}
 use borrow.Author.Needs.{needs}
-use Rattle.epe.proofs.Lines.{field-by-cut}
+use Rattle.epe.proofs.FieldsByTable.{field-by-cut}
 use Rattle.epe.proofs.name.part_of.Statement.{statement}
 use Rattle.epe.proofs.name.part_of.Tie as tie
 

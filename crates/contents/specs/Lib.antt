@@ -1,0 +1,8 @@
+-- In the order in which to read them.
+pub mod Faults
+pub mod Contents
+pub mod Accepted
+pub mod Kept
+pub mod Steps
+-- What a buyer need not read.
+pub mod Inner
