@@ -5,26 +5,26 @@ use mathlib.Core.Bool.{true, false, cond}
 use mathlib.Core.List.{List, [], _∷_}
 use Prim.Native.Nat.{ℕ, _+_, _/_, _%_, _<_, _≤_}
 use native.Mathlib.Omega.{arith}
-use borrow.Author.Tests.{le-leb, lt-leb, leb-false}
+use borrow.Author.Tests.{le-leb, leb-true}
 use lib.Dec.{leb}
 use lib.ListN.{length, getD, set, length-set}
 use lib.Seq.{getD-set-same, getD-set-other}
-use Rattle.text.proofs.Branches.{second-no}
-use Rattle.money.specs.Money.{amount, orderCap, sumCap, isOrderAmount, isSum}
+use Rattle.text.proofs.Branches.{and-right}
+use Rattle.money.specs.Money.{amount, orderCap, isOrderAmount, WithinOrder}
 use Rattle.contents.specs.Accepted.{OrderInRange, EachInRange}
 use Rattle.contents.specs.Kept.{keptCode, orderFrom, orderIn, ordersIn, keptFrom, KeptInOrder}
 use Rattle.contents.specs.declared.record.Order.{Order}
 
--- what is no order's amount reads 0, also where it is not even a sum
+-- what is no order's amount reads 0
 module _ (n : ℕ) where
   pub held-amount : isOrderAmount n ≡ true → amount n ≡ amount (cond (isOrderAmount n) n 0)
   held-amount h = rw h
 
+  pub held-within : isOrderAmount n ≡ true → WithinOrder n
+  held-within h = leb-true n orderCap (and-right (leb 1 n) (leb n orderCap) h)
+
   pub no-amount : isOrderAmount n ≡ false → amount 0 ≡ amount (cond (isOrderAmount n) n 0)
   no-amount h = rw h
-
-  pub no-sum-no-amount : isSum n ≡ false → isOrderAmount n ≡ false
-  no-sum-no-amount h = second-no (leb 1 n) (leb n orderCap) (lt-leb n orderCap (omega (arith, leb-false n sumCap h)))
 
 -- an order comes back from its number
 decoded : (order : Order) (table : List ℕ) (j : ℕ) → OrderInRange order → getD table j 0 ≡ keptCode order → orderIn table j ≡ order

@@ -33,12 +33,8 @@ fn order_from(code: u64) -> Order
 fn amount_from(grosze: u64) -> Amount
     ensures { λ r. ⌜ r ≡ amount (cond (isOrderAmount grosze) grosze 0) ⌝ }
 {
-    if !Amount::is_sum(grosze) {
+    if !Amount::is_order(grosze) {
         return Amount::order(0);
     }
-    let read = Amount::sum(grosze);
-    if !read.is_order() {
-        return Amount::order(0);
-    }
-    read
+    Amount::order(grosze)
 }

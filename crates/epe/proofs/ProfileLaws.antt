@@ -5,12 +5,12 @@ use mathlib.Core.Bool.{Bool, true, false, _&&_}
 use mathlib.Core.List.{List, [], _∷_}
 use Prim.Native.Nat.{ℕ, zero, suc, _≤_}
 use native.Mathlib.Omega.{arith}
-use borrow.Author.Tests.{leb-true, lt-leb, leb-false}
-use lib.ListN.{length, getD}
+use borrow.Author.Tests.{leb-true}
 use lib.Dec.{eqb, leb}
+use lib.ListN.{length, getD}
 use Rattle.text.specs.Bytes.{between}
 use Rattle.text.proofs.Branches.{and-left, and-right}
-use Rattle.money.specs.Money.{fee, orderCap, isOrderFee, isSum}
+use Rattle.money.specs.Money.{fee, orderCap, isOrderFee}
 use Rattle.money.specs.declared.Fee.{Fee}
 use Rattle.calendar.specs.Calendar.{real}
 use Rattle.epe.specs.Profile.{asFees, feesFit, profileFits}
@@ -61,10 +61,6 @@ unfolding feesFit asFees
 fee-within [] i h = omega arith
 fee-within (n ∷ numbers) zero h = leb-true n orderCap (and-left (isOrderFee n) (feesFit (asFees numbers)) h)
 fee-within (n ∷ numbers) (suc i) h = fee-within numbers i (and-right (isOrderFee n) (feesFit (asFees numbers)) h)
-
--- what is no sum is no fee
-pub no-sum-no-fee : (n : ℕ) → isSum n ≡ false → false ≡ isOrderFee n
-no-sum-no-fee n h = rw (lt-leb n orderCap (omega (arith, leb-false n _ h)))
 
 -- a profile that fits has at most 32 fields to a record
 pub fields-allowed : (profile : Profile) → profileFits profile ≡ true → profile .fields ≤ 32

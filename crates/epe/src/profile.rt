@@ -3,7 +3,6 @@ ghost use mathlib.Core.Path.{_≡_};
 ghost use mathlib.Core.Bool.{true, _&&_};
 ghost use lib.Dec.{eqb};
 ghost use lib.ListN.{length};
-ghost use Rattle.money.specs.Money.{isOrderFee};
 ghost use Rattle.epe.specs.Profile.{asFees, feesFit, profileFits};
 use calendar::date::Date;
 use calendar::date::is_real;
@@ -32,8 +31,9 @@ pub fn profile_fits(profile: Profile) -> bool
 pub fn are_fees(numbers: [u64; 5]) -> bool
     ensures { λ r. ⌜ r ≡ feesFit (asFees numbers) ⌝ }
 {
-    is_fee(numbers[0])
-        & (is_fee(numbers[1]) & (is_fee(numbers[2]) & (is_fee(numbers[3]) & is_fee(numbers[4]))))
+    Fee::is_order(numbers[0])
+        & (Fee::is_order(numbers[1])
+            & (Fee::is_order(numbers[2]) & (Fee::is_order(numbers[3]) & Fee::is_order(numbers[4]))))
 }
 
 // Five numbers as fees.
@@ -59,16 +59,7 @@ fn fees_fit(fees: [Fee; 5]) -> bool
     let third = fees[2];
     let fourth = fees[3];
     let fifth = fees[4];
-    first.is_order()
-        & (second.is_order() & (third.is_order() & (fourth.is_order() & fifth.is_order())))
-}
-
-// Is a number a fee?
-fn is_fee(number: u64) -> bool
-    ensures { λ r. ⌜ r ≡ isOrderFee number ⌝ }
-{
-    if !Fee::is_sum(number) {
-        return false;
-    }
-    Fee::sum(number).is_order()
+    Fee::is_order(first.0)
+        & (Fee::is_order(second.0)
+            & (Fee::is_order(third.0) & (Fee::is_order(fourth.0) & Fee::is_order(fifth.0))))
 }

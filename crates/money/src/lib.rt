@@ -78,11 +78,11 @@ impl Amount {
         Amount(grosze)
     }
 
-    // Is it an order's amount?
-    pub fn is_order(self) -> bool
-        ensures { λ r. ⌜ r ≡ isOrderAmount (self .0) ⌝ }
+    // Are the grosze an order's amount?
+    pub fn is_order(grosze: u64) -> bool
+        ensures { λ r. ⌜ r ≡ isOrderAmount grosze ⌝ }
     {
-        is_between(1, Self::ORDER_CAP, self.0)
+        is_between(1, Self::ORDER_CAP, grosze)
     }
 
     // Are the grosze a sum of amounts?
@@ -165,11 +165,11 @@ impl Fee {
         Fee(grosze)
     }
 
-    // Is it an order's fee?
-    pub fn is_order(self) -> bool
-        ensures { λ r. ⌜ r ≡ isOrderFee (self .0) ⌝ }
+    // Are the grosze an order's fee?
+    pub fn is_order(grosze: u64) -> bool
+        ensures { λ r. ⌜ r ≡ isOrderFee grosze ⌝ }
     {
-        self.0 <= Self::ORDER_CAP
+        grosze <= Self::ORDER_CAP
     }
 
     // Are the grosze a sum of fees?

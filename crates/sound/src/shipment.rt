@@ -34,8 +34,7 @@ fn is_fee_in_range(head: &[u8]) -> bool
     requires { ⌜ IsHead (now head) ⌝ }
     ensures { λ r. ⌜ r ≡ isOrderFee (feeIn (now (head .entry))) ⌝ }
 {
-    let fee = fee(head);
-    fee.is_order()
+    Fee::is_order(fee(head).0)
 }
 
 // May the shipment, Paired or not, have such rows?

@@ -33,7 +33,7 @@ fn with_row(tally: Tally, row: &[u8], table: &[u8]) -> Tally
     ensures { λ r. ⌜ (r ≡ tallied tally (rowOf (now (row .entry)))) × (r .amounts .0 < tally .amounts .0 + 2 ^ 32) ⌝ }
 {
     let amount = amount(row);
-    let fits = amount.is_order();
+    let fits = Amount::is_order(amount.0);
     let classes = tally.classes | class(row, table);
     let amounts = Amount::sum(tally.amounts.0 + amount.0);
     let out = tally.out + !fits as u64;

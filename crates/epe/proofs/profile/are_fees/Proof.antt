@@ -4,35 +4,35 @@ use borrow.Author.Needs.{needs}
 use Rattle.epe.proofs.profile.are_fees.Statement.{statement}
 use Rattle.epe.proofs.profile.are_fees.Tie as tie
 
-array-read-is-fee : tie.Need-array-read-is-fee
-array-read-is-fee c = search needs
+array-read-is-order : tie.Need-array-read-is-order
+array-read-is-order c = search needs
 
-is-fee-requires : tie.Need-is-fee-requires
-is-fee-requires c κs = search needs
+is-order-requires : tie.Need-is-order-requires
+is-order-requires c κs = search needs
 
-array-read-is-fee-2 : tie.Need-array-read-is-fee-2
-array-read-is-fee-2 c = search needs
+array-read-is-order-2 : tie.Need-array-read-is-order-2
+array-read-is-order-2 c = search needs
 
-is-fee-requires-2 : tie.Need-is-fee-requires-2
-is-fee-requires-2 c κs = search needs
+is-order-requires-2 : tie.Need-is-order-requires-2
+is-order-requires-2 c κs = search needs
 
-array-read-is-fee-3 : tie.Need-array-read-is-fee-3
-array-read-is-fee-3 c = search needs
+array-read-is-order-3 : tie.Need-array-read-is-order-3
+array-read-is-order-3 c = search needs
 
-is-fee-requires-3 : tie.Need-is-fee-requires-3
-is-fee-requires-3 c κs = search needs
+is-order-requires-3 : tie.Need-is-order-requires-3
+is-order-requires-3 c κs = search needs
 
-array-read-is-fee-4 : tie.Need-array-read-is-fee-4
-array-read-is-fee-4 c = search needs
+array-read-is-order-4 : tie.Need-array-read-is-order-4
+array-read-is-order-4 c = search needs
 
-is-fee-requires-4 : tie.Need-is-fee-requires-4
-is-fee-requires-4 c κs = search needs
+is-order-requires-4 : tie.Need-is-order-requires-4
+is-order-requires-4 c κs = search needs
 
-array-read-is-fee-5 : tie.Need-array-read-is-fee-5
-array-read-is-fee-5 c = search needs
+array-read-is-order-5 : tie.Need-array-read-is-order-5
+array-read-is-order-5 c = search needs
 
-is-fee-requires-5 : tie.Need-is-fee-requires-5
-is-fee-requires-5 c κs = search needs
+is-order-requires-5 : tie.Need-is-order-requires-5
+is-order-requires-5 c κs = search needs
 
 returns : tie.Need-returns
 returns c =
@@ -44,25 +44,25 @@ returns c =
     let start = first .before in
     rw (
       numbers-judged (start .args .t1) (search needs),
-      first .is-fee .ensures,
-      second .is-fee2 .ensures,
-      third .is-fee3 .ensures,
-      fourth .is-fee4 .ensures,
-      fifth .is-fee5 .ensures,
+      first .is-order .ensures,
+      second .is-order2 .ensures,
+      third .is-order3 .ensures,
+      fourth .is-order4 .ensures,
+      fifth .is-order5 .ensures,
     )
 
 pub are-fees-spec : {M : Type 1} → statement M
 are-fees-spec =
     tie.close
     (tie.spec
-    array-read-is-fee
-    is-fee-requires
-    array-read-is-fee-2
-    is-fee-requires-2
-    array-read-is-fee-3
-    is-fee-requires-3
-    array-read-is-fee-4
-    is-fee-requires-4
-    array-read-is-fee-5
-    is-fee-requires-5
+    array-read-is-order
+    is-order-requires
+    array-read-is-order-2
+    is-order-requires-2
+    array-read-is-order-3
+    is-order-requires-3
+    array-read-is-order-4
+    is-order-requires-4
+    array-read-is-order-5
+    is-order-requires-5
     returns)
