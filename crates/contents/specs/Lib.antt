@@ -1,6 +1,6 @@
 -- In the order in which to read them.
-pub mod Faults
 pub mod Contents
+pub mod Faults
 pub mod Accepted
 pub mod Kept
 pub mod Steps
