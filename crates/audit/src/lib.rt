@@ -20,6 +20,24 @@ pub enum Replaying {
     NotEmpty,
 }
 
+// Makes every call of a journal in memory that holds an empty book, and tells every answer, in three numbers to a call.
+pub fn replay(memory: &mut [u8], journal: &[u8], answers: &mut [[u64; 3]]) -> Replaying
+    ensures { λ r. ⌜ Replays (now (memory .entry)) (now (journal .entry)) (now (answers .entry)) r (now (memory .exit)) (now (answers .exit)) ⌝ }
+{
+    if !does_journal_fit(journal) {
+        return Replaying::NotEncoded;
+    }
+    let n = read_eight(journal, 0);
+    if (answers.len() as u64) < n {
+        return Replaying::TooFewAnswers;
+    }
+    if !is_empty(memory) {
+        return Replaying::NotEmpty;
+    }
+    replay_all(memory, journal, answers, n);
+    Replaying::Replayed(n)
+}
+
 // Does the memory hold a book without shipments?
 fn is_empty(memory: &[u8]) -> bool
     ensures { λ r. ⌜ r ≡ emptyIn (now (memory .entry)) ⌝ }
@@ -41,22 +59,4 @@ fn replay_all(memory: &mut [u8], journal: &[u8], answers: &mut [[u64; 3]], n: u6
         at += entry_length(entry);
         i += 1;
     }
-}
-
-// Makes every call of a journal in memory that holds an empty book, and tells every answer, in three numbers to a call.
-pub fn replay(memory: &mut [u8], journal: &[u8], answers: &mut [[u64; 3]]) -> Replaying
-    ensures { λ r. ⌜ Replays (now (memory .entry)) (now (journal .entry)) (now (answers .entry)) r (now (memory .exit)) (now (answers .exit)) ⌝ }
-{
-    if !does_journal_fit(journal) {
-        return Replaying::NotEncoded;
-    }
-    let n = read_eight(journal, 0);
-    if (answers.len() as u64) < n {
-        return Replaying::TooFewAnswers;
-    }
-    if !is_empty(memory) {
-        return Replaying::NotEmpty;
-    }
-    replay_all(memory, journal, answers, n);
-    Replaying::Replayed(n)
 }

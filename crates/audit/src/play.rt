@@ -35,6 +35,18 @@ ghost use Rattle.model.specs.Calls.{Intake, Transfer, On};
 ghost use Rattle.book.specs.Reply.{Plays};
 ghost use Rattle.audit.specs.Journal.{callByte, entryNumber, entryText, profileIn, actIn, callIn, entryFits};
 
+// Makes the call of an entry.
+pub fn play(memory: &mut [u8], entry: &[u8]) -> Reply
+    requires { ⌜ entryFits (now entry) ≡ true ⌝ }
+    ensures { λ r. ⌜ Plays (now (memory .entry)) (callIn (now (entry .entry))) r (now (memory .exit)) ⌝ }
+{
+    match entry[0] {
+        0 => play_intake(memory, entry),
+        1 => play_transfer(memory, entry),
+        _ => play_act(memory, entry),
+    }
+}
+
 // Makes an entry's intake.
 fn play_intake(memory: &mut [u8], entry: &[u8]) -> Reply
     requires { ⌜ entryFits (now entry) ≡ true ⌝ }
@@ -59,20 +71,6 @@ fn play_transfer(memory: &mut [u8], entry: &[u8]) -> Reply
     tell_completion(transfer(memory, entry_text(entry, 0), entry_number(entry, 0)))
 }
 
-// Does what an entry says with an order.
-fn play_on_order(memory: &mut [u8], entry: &[u8], ident: Ident) -> Reply
-    requires { ⌜ (entryFits (now entry) ≡ true) × (ident ≡ identOf (entryText (now entry) 0)) × (5 ≤ callByte (now entry)) × (callByte (now entry) ≤ 8) ⌝ }
-    ensures { λ r. ⌜ Plays (now (memory .entry)) (On (identOf (entryText (now (entry .entry)) 0)) (actIn (now (entry .entry)))) r (now (memory .exit)) ⌝ }
-{
-    let number = entry_number(entry, 0);
-    match entry[0] {
-        5 => tell_posting(post(memory, ident, number)),
-        6 => tell_payment(pay(memory, ident, number)),
-        7 => tell_completion(mark_undelivered(memory, ident, number)),
-        _ => tell_completion(withdraw(memory, ident, number)),
-    }
-}
-
 // Does what an entry says with a shipment.
 fn play_act(memory: &mut [u8], entry: &[u8]) -> Reply
     requires { ⌜ (entryFits (now entry) ≡ true) × (2 ≤ callByte (now entry)) ⌝ }
@@ -92,14 +90,16 @@ fn play_act(memory: &mut [u8], entry: &[u8]) -> Reply
     }
 }
 
-// Makes the call of an entry.
-pub fn play(memory: &mut [u8], entry: &[u8]) -> Reply
-    requires { ⌜ entryFits (now entry) ≡ true ⌝ }
-    ensures { λ r. ⌜ Plays (now (memory .entry)) (callIn (now (entry .entry))) r (now (memory .exit)) ⌝ }
+// Does what an entry says with an order.
+fn play_on_order(memory: &mut [u8], entry: &[u8], ident: Ident) -> Reply
+    requires { ⌜ (entryFits (now entry) ≡ true) × (ident ≡ identOf (entryText (now entry) 0)) × (5 ≤ callByte (now entry)) × (callByte (now entry) ≤ 8) ⌝ }
+    ensures { λ r. ⌜ Plays (now (memory .entry)) (On (identOf (entryText (now (entry .entry)) 0)) (actIn (now (entry .entry)))) r (now (memory .exit)) ⌝ }
 {
+    let number = entry_number(entry, 0);
     match entry[0] {
-        0 => play_intake(memory, entry),
-        1 => play_transfer(memory, entry),
-        _ => play_act(memory, entry),
+        5 => tell_posting(post(memory, ident, number)),
+        6 => tell_payment(pay(memory, ident, number)),
+        7 => tell_completion(mark_undelivered(memory, ident, number)),
+        _ => tell_completion(withdraw(memory, ident, number)),
     }
 }

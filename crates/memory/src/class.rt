@@ -82,18 +82,18 @@ pub fn class_table() -> [u8; 256]
     table
 }
 
-// What soundness asks of the state that a byte says.
-fn class_of(code: u8, table: &[u8]) -> u8
-    requires { ⌜ now table ≡ classTable ⌝ }
-    ensures { λ r. ⌜ r ≡ classOf (stateOf code) ⌝ }
-{
-    table[code as usize]
-}
-
 // What soundness asks of a row's state, as bits to join.
 pub fn class(row: &[u8], table: &[u8]) -> u8
     requires { ⌜ IsRow (now row) × (now table ≡ classTable) ⌝ }
     ensures { λ r. ⌜ r ≡ classOf (rowOf (now (row .entry)) .state) ⌝ }
 {
     class_of(row[4], table)
+}
+
+// What soundness asks of the state that a byte says.
+fn class_of(code: u8, table: &[u8]) -> u8
+    requires { ⌜ now table ≡ classTable ⌝ }
+    ensures { λ r. ⌜ r ≡ classOf (stateOf code) ⌝ }
+{
+    table[code as usize]
 }

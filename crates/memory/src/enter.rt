@@ -27,16 +27,6 @@ ghost use Rattle.memory.specs.Layout.{size};
 ghost use Rattle.memory.specs.States.{lastFault};
 ghost use Rattle.memory.specs.Enter.{OrderEntered, HeadEntered, fieldsOf, HeadStored};
 
-// The state of an order as it is entered.
-fn entered_state(order: Order) -> State
-    ensures { λ r. ⌜ r ≡ enteredRow order .state ⌝ }
-{
-    if order.fault == 0 {
-        return State::Open;
-    }
-    State::Faulty(order.fault, true, true)
-}
-
 // Enters an order in row k.
 pub fn enter_order(memory: &mut [u8], k: usize, order: Order)
     requires { ⌜ (k < mostRows) × (size ≤ length (now memory)) × (order .amount .0 < 2 ^ 32) × (order .fault ≤ lastFault) ⌝ }
@@ -48,20 +38,23 @@ pub fn enter_order(memory: &mut [u8], k: usize, order: Order)
     store_state(memory, k, state);
 }
 
-// The head of a shipment as it is entered, but for the identifier.
-fn fields(name: Name, fee: Fee, n: u64) -> [u8; HEAD_SIZE]
-    requires { ⌜ (name .ident .len ≤ 17) × (name .kind ≤ 4) ⌝ }
-    ensures { λ r. ⌜ r ≡ replicate 17 0 ++ fieldsOf name (fee .0) n ⌝ }
+// Enters a shipment of n orders in head i.
+pub fn enter_head(memory: &mut [u8], i: usize, name: Name, fee: Fee, n: u64)
+    requires { ⌜ (i < mostShipments) × (size ≤ length (now memory)) × (nameInForm name ≡ true) × (fee .0 < 2 ^ 32) × (n < 2 ^ 16) ⌝ }
+    ensures { λ _. ⌜ HeadEntered name (fee .0) n i (now (memory .entry)) (now (memory .exit)) ⌝ }
 {
-    let mut head = [0u8; HEAD_SIZE];
-    head[LENGTH] = name.ident.len as u8;
-    store_four(&mut head, DATE, name.date.0);
-    head[PAYMENT] = name.payment;
-    head[KIND] = name.kind as u8;
-    store_four(&mut head, FEE, fee.0);
-    head[ORDERS] = (n % 256) as u8;
-    head[ORDERS + 1] = (n / 256 % 256) as u8;
-    head
+    let head = head_of(name, fee, n);
+    store_head(memory, i, head);
+}
+
+// The state of an order as it is entered.
+fn entered_state(order: Order) -> State
+    ensures { λ r. ⌜ r ≡ enteredRow order .state ⌝ }
+{
+    if order.fault == 0 {
+        return State::Open;
+    }
+    State::Faulty(order.fault, true, true)
 }
 
 // The head of a shipment of n orders as it is entered.
@@ -92,11 +85,18 @@ fn store_head(memory: &mut [u8], i: usize, head: [u8; HEAD_SIZE])
     }
 }
 
-// Enters a shipment of n orders in head i.
-pub fn enter_head(memory: &mut [u8], i: usize, name: Name, fee: Fee, n: u64)
-    requires { ⌜ (i < mostShipments) × (size ≤ length (now memory)) × (nameInForm name ≡ true) × (fee .0 < 2 ^ 32) × (n < 2 ^ 16) ⌝ }
-    ensures { λ _. ⌜ HeadEntered name (fee .0) n i (now (memory .entry)) (now (memory .exit)) ⌝ }
+// The head of a shipment as it is entered, but for the identifier.
+fn fields(name: Name, fee: Fee, n: u64) -> [u8; HEAD_SIZE]
+    requires { ⌜ (name .ident .len ≤ 17) × (name .kind ≤ 4) ⌝ }
+    ensures { λ r. ⌜ r ≡ replicate 17 0 ++ fieldsOf name (fee .0) n ⌝ }
 {
-    let head = head_of(name, fee, n);
-    store_head(memory, i, head);
+    let mut head = [0u8; HEAD_SIZE];
+    head[LENGTH] = name.ident.len as u8;
+    store_four(&mut head, DATE, name.date.0);
+    head[PAYMENT] = name.payment;
+    head[KIND] = name.kind as u8;
+    store_four(&mut head, FEE, fee.0);
+    head[ORDERS] = (n % 256) as u8;
+    head[ORDERS + 1] = (n / 256 % 256) as u8;
+    head
 }

@@ -124,26 +124,6 @@ pub fn orders(head: &[u8]) -> u64
     read_two(head, ORDERS)
 }
 
-// Where the transfers accepted of a money lie.
-fn accepted_at(money: Money) -> usize
-    ensures { λ r. ⌜ (r ≡ acceptedAt money) × (r + 8 ≤ headSize) ⌝ }
-{
-    match money {
-        Money::K => ACCEPTED_K,
-        Money::O => ACCEPTED_O,
-    }
-}
-
-// Where the surplus returned of a money lies.
-fn returned_at(money: Money) -> usize
-    ensures { λ r. ⌜ (r ≡ returnedAt money) × (r + 8 ≤ headSize) ⌝ }
-{
-    match money {
-        Money::K => RETURNED_K,
-        Money::O => RETURNED_O,
-    }
-}
-
 // Are the transfers accepted and the surplus returned of a money sums?
 pub fn has_sums_in_range(head: &[u8], money: Money) -> bool
     requires { ⌜ IsHead (now head) ⌝ }
@@ -204,17 +184,6 @@ pub fn fees_returned(head: &[u8]) -> Fee
     Fee::sum(read_eight(head, RETURNED_O))
 }
 
-// The byte that says a stage.
-fn stage_byte(stage: Stage) -> u8
-    ensures { λ r. ⌜ r ≡ stageByte stage ⌝ }
-{
-    match stage {
-        Stage::Waiting => 0,
-        Stage::Paired => 1,
-        Stage::Closed => 2,
-    }
-}
-
 // Stores a stage in head i.
 pub fn store_stage(memory: &mut [u8], i: usize, stage: Stage)
     requires { ⌜ (i < mostShipments) × (size ≤ length (now memory)) ⌝ }
@@ -251,4 +220,35 @@ pub fn store_returned(memory: &mut [u8], i: usize, sum: Sum)
     let at = HEADS + HEAD_SIZE * i;
     let field = returned_at(sum.money());
     store_eight(memory, at + field, sum.grosze());
+}
+
+// Where the transfers accepted of a money lie.
+fn accepted_at(money: Money) -> usize
+    ensures { λ r. ⌜ (r ≡ acceptedAt money) × (r + 8 ≤ headSize) ⌝ }
+{
+    match money {
+        Money::K => ACCEPTED_K,
+        Money::O => ACCEPTED_O,
+    }
+}
+
+// Where the surplus returned of a money lies.
+fn returned_at(money: Money) -> usize
+    ensures { λ r. ⌜ (r ≡ returnedAt money) × (r + 8 ≤ headSize) ⌝ }
+{
+    match money {
+        Money::K => RETURNED_K,
+        Money::O => RETURNED_O,
+    }
+}
+
+// The byte that says a stage.
+fn stage_byte(stage: Stage) -> u8
+    ensures { λ r. ⌜ r ≡ stageByte stage ⌝ }
+{
+    match stage {
+        Stage::Waiting => 0,
+        Stage::Paired => 1,
+        Stage::Closed => 2,
+    }
 }

@@ -77,18 +77,18 @@ pub fn holding_table() -> [u64; ENTRIES]
     HOLDINGS
 }
 
-// Which moneys an order in the state that a byte says holds.
-fn holding_of(code: u8, table: &[u64]) -> u64
-    requires { ⌜ now table ≡ holdingTable ⌝ }
-    ensures { λ r. ⌜ r ≡ holdingOf (stateOf code) ⌝ }
-{
-    table[smaller(code as usize, NO_STATE)]
-}
-
 // Which moneys the order holds, in a Paired shipment: 1 for K, and 2 more for O.
 pub fn holding(row: &[u8], table: &[u64]) -> u64
     requires { ⌜ IsRow (now row) × (now table ≡ holdingTable) ⌝ }
     ensures { λ r. ⌜ r ≡ holdingOf (rowOf (now (row .entry)) .state) ⌝ }
 {
     holding_of(row[4], table)
+}
+
+// Which moneys an order in the state that a byte says holds.
+fn holding_of(code: u8, table: &[u64]) -> u64
+    requires { ⌜ now table ≡ holdingTable ⌝ }
+    ensures { λ r. ⌜ r ≡ holdingOf (stateOf code) ⌝ }
+{
+    table[smaller(code as usize, NO_STATE)]
 }

@@ -37,13 +37,6 @@ const ROW_SIZE: usize = 8;
 // The bytes of a book.
 pub const SIZE: usize = ROWS + ROW_SIZE * MOST_ROWS;
 
-// A byte as a count.
-fn count(byte: u8) -> usize
-    ensures { λ r. ⌜ (r ≡ byte) × (r < 256) ⌝ }
-{
-    byte as usize
-}
-
 // How many shipments the memory says that it has.
 pub fn shipments(memory: &[u8]) -> usize
     requires { ⌜ size ≤ length (now memory) ⌝ }
@@ -58,4 +51,11 @@ pub fn store_shipments(memory: &mut [u8], n: usize)
     ensures { λ _. ⌜ now (memory .exit) ≡ set (now (memory .entry)) 0 n ⌝ }
 {
     memory[0] = n as u8;
+}
+
+// A byte as a count.
+fn count(byte: u8) -> usize
+    ensures { λ r. ⌜ (r ≡ byte) × (r < 256) ⌝ }
+{
+    byte as usize
 }

@@ -26,20 +26,6 @@ use text::bytes::equal;
 use text::bytes::first;
 use text::bytes::rest;
 
-// The 17 bytes from a place on.
-pub fn ident_bytes(s: &[u8], at: usize) -> [u8; 17]
-    requires { ⌜ at + 17 ≤ length (now s) ⌝ }
-    ensures { λ r. ⌜ r ≡ take 17 (drop at (now (s .entry))) ⌝ }
-{
-    let mut bytes = [0u8; 17];
-    let mut i = 0;
-    while i < 17 {
-        bytes[i] = s[at + i];
-        i += 1;
-    }
-    bytes
-}
-
 // The shipment's identifier.
 pub fn ident(head: &[u8]) -> Ident
     requires { ⌜ IsHead (now head) ⌝ }
@@ -80,6 +66,29 @@ pub fn are_namesakes(head: &[u8], other: &[u8]) -> bool
             && read_two(head, 16) == read_two(other, 16))
 }
 
+// Are all parts of the name in form?
+pub fn has_name_in_form(head: &[u8]) -> bool
+    requires { ⌜ IsHead (now head) ⌝ }
+    ensures { λ r. ⌜ r ≡ nameInForm (nameIn (now (head .entry))) ⌝ }
+{
+    has_ident_in_form(head)
+        && (is_real(Date(read_four(head, DATE))) && (is_payment(head[PAYMENT]) && head[KIND] <= 4))
+}
+
+// The 17 bytes from a place on.
+fn ident_bytes(s: &[u8], at: usize) -> [u8; 17]
+    requires { ⌜ at + 17 ≤ length (now s) ⌝ }
+    ensures { λ r. ⌜ r ≡ take 17 (drop at (now (s .entry))) ⌝ }
+{
+    let mut bytes = [0u8; 17];
+    let mut i = 0;
+    while i < 17 {
+        bytes[i] = s[at + i];
+        i += 1;
+    }
+    bytes
+}
+
 // Is the identifier in form?
 fn has_ident_in_form(head: &[u8]) -> bool
     requires { ⌜ IsHead (now head) ⌝ }
@@ -96,13 +105,4 @@ fn is_payment(byte: u8) -> bool
     ensures { λ r. ⌜ r ≡ (eqb byte 0x41 || eqb byte 0x42) ⌝ }
 {
     byte == b'A' || byte == b'B'
-}
-
-// Are all parts of the name in form?
-pub fn has_name_in_form(head: &[u8]) -> bool
-    requires { ⌜ IsHead (now head) ⌝ }
-    ensures { λ r. ⌜ r ≡ nameInForm (nameIn (now (head .entry))) ⌝ }
-{
-    has_ident_in_form(head)
-        && (is_real(Date(read_four(head, DATE))) && (is_payment(head[PAYMENT]) && head[KIND] <= 4))
 }

@@ -4,13 +4,6 @@ ghost use Prim.Native.Nat.{_+_, _≤_, _<_, _^_};
 ghost use lib.ListN.{length};
 ghost use Rattle.memory.specs.Number.{numberAt, withNumber};
 
-// A byte as a number.
-fn wide(byte: u8) -> u64
-    ensures { λ r. ⌜ (r ≡ byte) × (r < 256) ⌝ }
-{
-    byte as u64
-}
-
 // The two bytes from a place on, as a number.
 pub fn read_two(memory: &[u8], at: usize) -> u64
     requires { ⌜ at + 2 ≤ length (now memory) ⌝ }
@@ -53,4 +46,11 @@ pub fn store_eight(memory: &mut [u8], at: usize, n: u64)
 {
     store_four(memory, at, n);
     store_four(memory, at + 4, n / 0x1_0000_0000);
+}
+
+// A byte as a number.
+fn wide(byte: u8) -> u64
+    ensures { λ r. ⌜ (r ≡ byte) × (r < 256) ⌝ }
+{
+    byte as u64
 }

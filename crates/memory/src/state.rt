@@ -47,14 +47,6 @@ pub fn says_faulty(code: u8) -> bool
     is_between(12, LAST_CODE, code)
 }
 
-// The fault of a Faulty order.
-fn fault_of(code: u8) -> u64
-    requires { ⌜ 12 ≤ code ⌝ }
-    ensures { λ r. ⌜ r ≡ code / 4 - 2 ⌝ }
-{
-    (code / 4 - 2) as u64
-}
-
 // The state that a byte says.
 pub fn state_of(code: u8) -> State
     ensures { λ r. ⌜ r ≡ stateOf code ⌝ }
@@ -80,24 +72,6 @@ pub fn state_of(code: u8) -> State
     State::Faulty(0, false, false)
 }
 
-// The byte of two waits.
-fn waits_code(k: bool, o: bool) -> u8
-    ensures { λ r. ⌜ (r ≡ waitsCode k o) × (r ≤ 3) ⌝ }
-{
-    if k {
-        if o { 3 } else { 1 }
-    } else {
-        if o { 2 } else { 0 }
-    }
-}
-
-// The byte that says a fault, with no waits.
-fn faulty_code(fault: u64) -> u8
-    ensures { λ r. ⌜ (r ≡ 8 + 4 * (fault % 32)) × (r ≤ 132) ⌝ }
-{
-    8 + 4 * (fault % 32) as u8
-}
-
 // The byte that says a state.
 pub fn code_of(state: State) -> u8
     ensures { λ r. ⌜ r ≡ codeOf state ⌝ }
@@ -109,5 +83,31 @@ pub fn code_of(state: State) -> u8
         State::Faulty(fault, k, o) => faulty_code(fault) + waits_code(k, o),
         State::Undelivered(k) => 4 + waits_code(k, false),
         State::Withdrawn(k, o) => 8 + waits_code(k, o),
+    }
+}
+
+// The fault of a Faulty order.
+fn fault_of(code: u8) -> u64
+    requires { ⌜ 12 ≤ code ⌝ }
+    ensures { λ r. ⌜ r ≡ code / 4 - 2 ⌝ }
+{
+    (code / 4 - 2) as u64
+}
+
+// The byte that says a fault, with no waits.
+fn faulty_code(fault: u64) -> u8
+    ensures { λ r. ⌜ (r ≡ 8 + 4 * (fault % 32)) × (r ≤ 132) ⌝ }
+{
+    8 + 4 * (fault % 32) as u8
+}
+
+// The byte of two waits.
+fn waits_code(k: bool, o: bool) -> u8
+    ensures { λ r. ⌜ (r ≡ waitsCode k o) × (r ≤ 3) ⌝ }
+{
+    if k {
+        if o { 3 } else { 1 }
+    } else {
+        if o { 2 } else { 0 }
     }
 }

@@ -19,35 +19,6 @@ ghost use Rattle.memory.specs.Layout.{size};
 ghost use Rattle.memory.specs.States.{kWaits, oWaits};
 ghost use Rattle.memory.specs.Returns.{routeHas, codeWaits, waitIn, WaitTable, IsWaitTable, RowReturned};
 
-// Does the byte say a state of the orders that a route returns?
-fn route_has(route: Route, code: u8) -> bool
-    ensures { λ r. ⌜ r ≡ routeHas route code ⌝ }
-{
-    match route {
-        Route::Zwr => false,
-        Route::Opr => says_faulty(code),
-        Route::Zpr => says_undelivered(code),
-        Route::Zzr => says_withdrawn(code),
-    }
-}
-
-// Does the byte say that a money waits?
-fn money_waits(money: Money, code: u8) -> bool
-    ensures { λ r. ⌜ r ≡ byMoney money (kWaits code) (oWaits code) ⌝ }
-{
-    match money {
-        Money::K => k_waits(code),
-        Money::O => o_waits(code),
-    }
-}
-
-// Does a money wait on a route, by the byte?
-fn code_waits(route: Route, money: Money, code: u8) -> bool
-    ensures { λ r. ⌜ r ≡ codeWaits route money code ⌝ }
-{
-    route_has(route, code) && money_waits(money, code)
-}
-
 // What the wait of a money adds to a byte of state.
 pub fn wait_of(money: Money) -> u8
     ensures { λ r. ⌜ (r ≡ byMoney money 1 2) × (1 ≤ r) × (r ≤ 2) ⌝ }
@@ -56,16 +27,6 @@ pub fn wait_of(money: Money) -> u8
         Money::K => 1,
         Money::O => 2,
     }
-}
-
-// What the wait of a money on a route adds to the byte, 0 where there is none.
-fn wait_in(route: Route, money: Money, code: u8) -> u8
-    ensures { λ r. ⌜ r ≡ waitIn route money code ⌝ }
-{
-    if code_waits(route, money, code) {
-        return wait_of(money);
-    }
-    0
 }
 
 // What the wait of a money on a route adds to each byte of state. The table is made once for many rows, and lent.
@@ -88,4 +49,43 @@ pub fn store_return(memory: &mut [u8], k: usize, table: &[u8]) -> u64
     let taken = table[code as usize];
     store_code(memory, k, code - taken);
     taken as u64
+}
+
+// What the wait of a money on a route adds to the byte, 0 where there is none.
+fn wait_in(route: Route, money: Money, code: u8) -> u8
+    ensures { λ r. ⌜ r ≡ waitIn route money code ⌝ }
+{
+    if code_waits(route, money, code) {
+        return wait_of(money);
+    }
+    0
+}
+
+// Does a money wait on a route, by the byte?
+fn code_waits(route: Route, money: Money, code: u8) -> bool
+    ensures { λ r. ⌜ r ≡ codeWaits route money code ⌝ }
+{
+    route_has(route, code) && money_waits(money, code)
+}
+
+// Does the byte say a state of the orders that a route returns?
+fn route_has(route: Route, code: u8) -> bool
+    ensures { λ r. ⌜ r ≡ routeHas route code ⌝ }
+{
+    match route {
+        Route::Zwr => false,
+        Route::Opr => says_faulty(code),
+        Route::Zpr => says_undelivered(code),
+        Route::Zzr => says_withdrawn(code),
+    }
+}
+
+// Does the byte say that a money waits?
+fn money_waits(money: Money, code: u8) -> bool
+    ensures { λ r. ⌜ r ≡ byMoney money (kWaits code) (oWaits code) ⌝ }
+{
+    match money {
+        Money::K => k_waits(code),
+        Money::O => o_waits(code),
+    }
 }

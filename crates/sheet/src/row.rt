@@ -36,23 +36,56 @@ pub struct Parts {
     pub holders: u64,
 }
 
-// The parts with one order more.
-fn with_order(parts: Parts, row: &[u8], table: &[u64]) -> Parts
-    requires { ⌜ IsRow (now row) × (now table ≡ holdingTable) × SmallParts parts ⌝ }
-    ensures { λ r. ⌜ (r ≡ withOrder parts (rowOf (now (row .entry)))) × (r .amounts .0 < parts .amounts .0 + 2 ^ 32) ⌝ }
+// The row of the shipment at a place.
+pub fn row_at(memory: &[u8], i: usize, k: usize) -> SheetRow
+    requires { ⌜ Sits (now memory) i k ⌝ }
+    ensures { λ r. ⌜ r ≡ rowFor (shipmentAt (now (memory .entry)) i k) ⌝ }
 {
-    let amount = amount(row);
-    let holding = holding(row, table);
-    let k_held = amount.0 * (holding % 2);
-    let holder = holding / 2;
-    let amounts = Amount::sum(parts.amounts.0 + amount.0);
-    let held = Amount::sum(parts.held.0 + k_held);
-    Parts {
-        orders: parts.orders + 1,
+    let parts = parts_at(memory, i, k);
+    let ident = ident(head_bytes(memory, i));
+    let amounts = amounts_at(memory, i, k, parts);
+    let fees = fees_at(memory, i, k, parts);
+    SheetRow {
+        ident,
         amounts,
-        held,
-        holders: parts.holders + holder,
+        fees,
     }
+}
+
+// The parts of the shipment at a place; none unless it is Paired.
+fn parts_at(memory: &[u8], i: usize, k: usize) -> Parts
+    requires { ⌜ Sits (now memory) i k ⌝ }
+    ensures { λ r. ⌜ r ≡ partsOncePaired (shipmentAt (now (memory .entry)) i k) ⌝ }
+{
+    let head = head_bytes(memory, i);
+    if !is_paired(head) {
+        return no_parts();
+    }
+    parts_of(memory, k, orders(head) as usize)
+}
+
+// The amounts of the shipment at a place, by its parts.
+fn amounts_at(memory: &[u8], i: usize, k: usize, parts: Parts) -> Amounts
+    requires { ⌜ Sits (now memory) i k × (parts ≡ partsOncePaired (shipmentAt (now memory) i k)) ⌝ }
+    ensures { λ r. ⌜ r ≡ amountsOf (shipmentAt (now (memory .entry)) i k) ⌝ }
+{
+    let head = head_bytes(memory, i);
+    let accepted = amounts_accepted(head);
+    let returned = amounts_returned(head);
+    amounts_divided(accepted, returned, parts.amounts, parts.held)
+}
+
+// Its fees: an order needs the fee, and each that holds a fee holds it.
+fn fees_at(memory: &[u8], i: usize, k: usize, parts: Parts) -> Fees
+    requires { ⌜ Sits (now memory) i k × (parts ≡ partsOncePaired (shipmentAt (now memory) i k)) ⌝ }
+    ensures { λ r. ⌜ r ≡ feesOf (shipmentAt (now (memory .entry)) i k) ⌝ }
+{
+    let head = head_bytes(memory, i);
+    let accepted = fees_accepted(head);
+    let returned = fees_returned(head);
+    let need = fees(head, parts.orders);
+    let held = fees(head, parts.holders);
+    fees_divided(accepted, returned, need, held)
 }
 
 // No parts.
@@ -85,18 +118,6 @@ fn parts_of(memory: &[u8], k: usize, n: usize) -> Parts
     parts
 }
 
-// The parts of the shipment at a place; none unless it is Paired.
-fn parts_at(memory: &[u8], i: usize, k: usize) -> Parts
-    requires { ⌜ Sits (now memory) i k ⌝ }
-    ensures { λ r. ⌜ r ≡ partsOncePaired (shipmentAt (now (memory .entry)) i k) ⌝ }
-{
-    let head = head_bytes(memory, i);
-    if !is_paired(head) {
-        return no_parts();
-    }
-    parts_of(memory, k, orders(head) as usize)
-}
-
 // Divides the amounts accepted, by what was returned of them, is needed and is held.
 fn amounts_divided(accepted: Amount, returned: Amount, need: Amount, held: Amount) -> Amounts
     ensures { λ r. ⌜ r ≡ amountsFrom (divided (accepted .0) (returned .0) (need .0) (held .0)) ⌝ }
@@ -125,42 +146,21 @@ fn fees_divided(accepted: Fee, returned: Fee, need: Fee, held: Fee) -> Fees
     }
 }
 
-// The amounts of the shipment at a place, by its parts.
-fn amounts_at(memory: &[u8], i: usize, k: usize, parts: Parts) -> Amounts
-    requires { ⌜ Sits (now memory) i k × (parts ≡ partsOncePaired (shipmentAt (now memory) i k)) ⌝ }
-    ensures { λ r. ⌜ r ≡ amountsOf (shipmentAt (now (memory .entry)) i k) ⌝ }
+// The parts with one order more.
+fn with_order(parts: Parts, row: &[u8], table: &[u64]) -> Parts
+    requires { ⌜ IsRow (now row) × (now table ≡ holdingTable) × SmallParts parts ⌝ }
+    ensures { λ r. ⌜ (r ≡ withOrder parts (rowOf (now (row .entry)))) × (r .amounts .0 < parts .amounts .0 + 2 ^ 32) ⌝ }
 {
-    let head = head_bytes(memory, i);
-    let accepted = amounts_accepted(head);
-    let returned = amounts_returned(head);
-    amounts_divided(accepted, returned, parts.amounts, parts.held)
-}
-
-// Its fees: an order needs the fee, and each that holds a fee holds it.
-fn fees_at(memory: &[u8], i: usize, k: usize, parts: Parts) -> Fees
-    requires { ⌜ Sits (now memory) i k × (parts ≡ partsOncePaired (shipmentAt (now memory) i k)) ⌝ }
-    ensures { λ r. ⌜ r ≡ feesOf (shipmentAt (now (memory .entry)) i k) ⌝ }
-{
-    let head = head_bytes(memory, i);
-    let accepted = fees_accepted(head);
-    let returned = fees_returned(head);
-    let need = fees(head, parts.orders);
-    let held = fees(head, parts.holders);
-    fees_divided(accepted, returned, need, held)
-}
-
-// The row of the shipment at a place.
-pub fn row_at(memory: &[u8], i: usize, k: usize) -> SheetRow
-    requires { ⌜ Sits (now memory) i k ⌝ }
-    ensures { λ r. ⌜ r ≡ rowFor (shipmentAt (now (memory .entry)) i k) ⌝ }
-{
-    let parts = parts_at(memory, i, k);
-    let ident = ident(head_bytes(memory, i));
-    let amounts = amounts_at(memory, i, k, parts);
-    let fees = fees_at(memory, i, k, parts);
-    SheetRow {
-        ident,
+    let amount = amount(row);
+    let holding = holding(row, table);
+    let k_held = amount.0 * (holding % 2);
+    let holder = holding / 2;
+    let amounts = Amount::sum(parts.amounts.0 + amount.0);
+    let held = Amount::sum(parts.held.0 + k_held);
+    Parts {
+        orders: parts.orders + 1,
         amounts,
-        fees,
+        held,
+        holders: parts.holders + holder,
     }
 }

@@ -21,6 +21,56 @@ pub enum Adding {
     Above,
 }
 
+// Adds the rows of all n shipments of a sound book to totals.
+pub fn add(memory: &[u8], n: usize, totals: Totals) -> Adding
+    requires { ⌜ (soundIn (now memory) ≡ true) × (n ≡ shipmentsIn (now memory)) ⌝ }
+    ensures { λ r. ⌜ r ≡ addingOf totals (map rowFor (bookIn (now (memory .entry)))) ⌝ }
+{
+    if !is_within(totals) {
+        return Adding::Above;
+    }
+    let mut sums = totals;
+    let mut i = 0;
+    let mut k = 0;
+    let mut left = n;
+    while 0 < left {
+        let row = row_at(memory, i, k);
+        if !can_add(sums, row) {
+            return Adding::Above;
+        }
+        sums = plus(sums, row);
+        k += orders(head_bytes(memory, i)) as usize;
+        i += 1;
+        left -= 1;
+    }
+    Adding::Added(sums)
+}
+
+// Are all totals within the cap?
+fn is_within(totals: Totals) -> bool
+    ensures { λ r. ⌜ r ≡ withinCap totals ⌝ }
+{
+    are_amounts_within(totals.amounts) && are_fees_within(totals.fees)
+}
+
+// Do the totals stay within the cap with a row added?
+fn can_add(totals: Totals, row: SheetRow) -> bool
+    requires { ⌜ TotalsWithin totals × RowWithin row ⌝ }
+    ensures { λ r. ⌜ r ≡ withinCap (plus totals row) ⌝ }
+{
+    can_add_amounts(totals.amounts, row.amounts) && can_add_fees(totals.fees, row.fees)
+}
+
+// The totals with one row added.
+fn plus(totals: Totals, row: SheetRow) -> Totals
+    requires { ⌜ TotalsWithin (plus totals row) ⌝ }
+    ensures { λ r. ⌜ r ≡ plus totals row ⌝ }
+{
+    let amounts = plus_amounts(totals.amounts, row.amounts);
+    let fees = plus_fees(totals.fees, row.fees);
+    Totals { amounts, fees }
+}
+
 // Are the amounts within the cap?
 fn are_amounts_within(a: Amounts) -> bool
     ensures { λ r. ⌜ r ≡ amountsWithin a ⌝ }
@@ -36,13 +86,6 @@ fn are_fees_within(a: Fees) -> bool
 {
     Fee::is_total(a.accepted.0)
         && (Fee::is_total(a.held.0) && (Fee::is_total(a.free.0) && Fee::is_total(a.left.0)))
-}
-
-// Are all totals within the cap?
-fn is_within(totals: Totals) -> bool
-    ensures { λ r. ⌜ r ≡ withinCap totals ⌝ }
-{
-    are_amounts_within(totals.amounts) && are_fees_within(totals.fees)
 }
 
 // Do amounts stay within the cap with others added?
@@ -63,14 +106,6 @@ fn can_add_fees(a: Fees, b: Fees) -> bool
     Fee::is_total(a.accepted.0 + b.accepted.0)
         && (Fee::is_total(a.held.0 + b.held.0)
             && (Fee::is_total(a.free.0 + b.free.0) && Fee::is_total(a.left.0 + b.left.0)))
-}
-
-// Do the totals with a row added?
-fn can_add(totals: Totals, row: SheetRow) -> bool
-    requires { ⌜ TotalsWithin totals × RowWithin row ⌝ }
-    ensures { λ r. ⌜ r ≡ withinCap (plus totals row) ⌝ }
-{
-    can_add_amounts(totals.amounts, row.amounts) && can_add_fees(totals.fees, row.fees)
 }
 
 // Amounts added, each to its own.
@@ -105,39 +140,4 @@ fn plus_fees(a: Fees, b: Fees) -> Fees
         free,
         left,
     }
-}
-
-// The totals with one row added.
-fn plus(totals: Totals, row: SheetRow) -> Totals
-    requires { ⌜ TotalsWithin (plus totals row) ⌝ }
-    ensures { λ r. ⌜ r ≡ plus totals row ⌝ }
-{
-    let amounts = plus_amounts(totals.amounts, row.amounts);
-    let fees = plus_fees(totals.fees, row.fees);
-    Totals { amounts, fees }
-}
-
-// Adds the rows of all n shipments of a sound book to totals.
-pub fn add(memory: &[u8], n: usize, totals: Totals) -> Adding
-    requires { ⌜ (soundIn (now memory) ≡ true) × (n ≡ shipmentsIn (now memory)) ⌝ }
-    ensures { λ r. ⌜ r ≡ addingOf totals (map rowFor (bookIn (now (memory .entry)))) ⌝ }
-{
-    if !is_within(totals) {
-        return Adding::Above;
-    }
-    let mut sums = totals;
-    let mut i = 0;
-    let mut k = 0;
-    let mut left = n;
-    while 0 < left {
-        let row = row_at(memory, i, k);
-        if !can_add(sums, row) {
-            return Adding::Above;
-        }
-        sums = plus(sums, row);
-        k += orders(head_bytes(memory, i)) as usize;
-        i += 1;
-        left -= 1;
-    }
-    Adding::Added(sums)
 }

@@ -26,13 +26,6 @@ pub fn is_letter(b: u8) -> bool
     is_between(b'A', b'Z', b) || is_between(b'a', b'z', b)
 }
 
-// Is the byte a letter or a digit?
-pub fn is_letter_or_digit(b: u8) -> bool
-    ensures { λ r. ⌜ r ≡ letterOrDigit b ⌝ }
-{
-    is_letter(b) || is_digit(b)
-}
-
 // Are all bytes letters or digits?
 pub fn are_letters_or_digits(s: &[u8]) -> bool
     ensures { λ r. ⌜ r ≡ lettersOrDigits (now (s .entry)) ⌝ }
@@ -104,13 +97,6 @@ pub fn equal(a: &[u8], b: &[u8]) -> bool
     true
 }
 
-// Is one of them true?
-fn either(a: bool, b: bool) -> bool
-    ensures { λ r. ⌜ r ≡ (a || b) ⌝ }
-{
-    a | b
-}
-
 // Does a byte stand in a text? The loop has no early exit, so that many bytes can be compared at once.
 pub fn has_byte(s: &[u8], b: u8) -> bool
     ensures { λ r. ⌜ r ≡ hasByte b (now (s .entry)) ⌝ }
@@ -122,22 +108,6 @@ pub fn has_byte(s: &[u8], b: u8) -> bool
         i += 1;
     }
     found
-}
-
-// A place at or behind the given one, with no b between them: whole blocks of 32 bytes without b are passed.
-fn skip_blocks(s: &[u8], b: u8, from: usize) -> usize
-    requires { ⌜ from ≤ length (now s) ⌝ }
-    ensures { λ r. ⌜ (r ≤ length (now (s .entry))) × (r + before b (drop r (now (s .entry))) ≡ from + before b (drop from (now (s .entry)))) ⌝ }
-{
-    let mut i = from;
-    while 32 <= s.len() - i {
-        let end = i + 32;
-        if has_byte(&s[i..end], b) {
-            return i;
-        }
-        i = end;
-    }
-    i
 }
 
 // Where b comes next from a place on, or the end of the text; a place past the end is its own answer.
@@ -153,6 +123,36 @@ pub fn find(s: &[u8], b: u8, from: usize) -> usize
             return i;
         }
         i += 1;
+    }
+    i
+}
+
+// Is the byte a letter or a digit?
+fn is_letter_or_digit(b: u8) -> bool
+    ensures { λ r. ⌜ r ≡ letterOrDigit b ⌝ }
+{
+    is_letter(b) || is_digit(b)
+}
+
+// Is one of them true?
+fn either(a: bool, b: bool) -> bool
+    ensures { λ r. ⌜ r ≡ (a || b) ⌝ }
+{
+    a | b
+}
+
+// A place at or behind the given one, with no b between them: whole blocks of 32 bytes without b are passed.
+fn skip_blocks(s: &[u8], b: u8, from: usize) -> usize
+    requires { ⌜ from ≤ length (now s) ⌝ }
+    ensures { λ r. ⌜ (r ≤ length (now (s .entry))) × (r + before b (drop r (now (s .entry))) ≡ from + before b (drop from (now (s .entry)))) ⌝ }
+{
+    let mut i = from;
+    while 32 <= s.len() - i {
+        let end = i + 32;
+        if has_byte(&s[i..end], b) {
+            return i;
+        }
+        i = end;
     }
     i
 }

@@ -8,11 +8,33 @@ ghost use lib.ListN.{length, getD, take, replicate};
 ghost use Rattle.text.specs.Fields.{cuts, cutTable, cutCount, fieldBy};
 use crate::bytes::slice;
 
-// 1 where two bytes are equal, else 0.
-fn one_if_equal(a: u8, b: u8) -> usize
-    ensures { λ r. ⌜ r ≡ cond (eqb a b) 1 0 ⌝ }
+// Fills a table with the places of a text's separators, as many as it has room for, zeros behind them, and answers how many it holds.
+pub fn cut(s: &[u8], separator: u8, table: &mut [usize]) -> usize
+    ensures { λ r. ⌜ r ≡ cutCount (length (now (table .entry))) separator (now (s .entry)) ⌝ }
+    ensures { λ r. ⌜ now (table .exit) ≡ cutTable (length (now (table .entry))) separator (now (s .entry)) ⌝ }
 {
-    if a == b { 1 } else { 0 }
+    let count = note_cuts(s, separator, table);
+    clear_from(table, count);
+    count
+}
+
+// Field k of a text by the table of its cuts and their number, as `cut` leaves them.
+pub fn field<'a, 'b>(s: &'a [u8], table: &'b [usize], count: usize, k: usize) -> &'a [u8]
+    ensures { λ r. ⌜ now r ≡ fieldBy (now (table .entry)) count k (now (s .entry)) ⌝ }
+{
+    let n = s.len();
+    if count < k {
+        return slice(s, n, n);
+    }
+    let end = end_of(table, count, k, n);
+    if k == 0 {
+        return slice(s, 0, end);
+    }
+    let before = place_at(table, k - 1);
+    if n <= before {
+        return slice(s, n, n);
+    }
+    slice(s, before + 1, end)
 }
 
 // Notes the places of the separators, as many as the table has room for, and answers how many; the place behind the last is overwritten.
@@ -45,23 +67,6 @@ fn clear_from(table: &mut [usize], from: usize)
     }
 }
 
-// Fills a table with the places of a text's separators, as many as it has room for, zeros behind them, and answers how many it holds.
-pub fn cut(s: &[u8], separator: u8, table: &mut [usize]) -> usize
-    ensures { λ r. ⌜ r ≡ cutCount (length (now (table .entry))) separator (now (s .entry)) ⌝ }
-    ensures { λ r. ⌜ now (table .exit) ≡ cutTable (length (now (table .entry))) separator (now (s .entry)) ⌝ }
-{
-    let count = note_cuts(s, separator, table);
-    clear_from(table, count);
-    count
-}
-
-// A place of a table, 0 past its end.
-fn place_at(table: &[usize], i: usize) -> usize
-    ensures { λ r. ⌜ r ≡ getD (now (table .entry)) i 0 ⌝ }
-{
-    if i < table.len() { table[i] } else { 0 }
-}
-
 // Where field k ends: at the cut after it, or with the text.
 fn end_of(table: &[usize], count: usize, k: usize, length: usize) -> usize
     ensures { λ r. ⌜ r ≡ cond (ltb k count) (getD (now (table .entry)) k 0) length ⌝ }
@@ -73,21 +78,16 @@ fn end_of(table: &[usize], count: usize, k: usize, length: usize) -> usize
     }
 }
 
-// Field k of a text by the table of its cuts and their number, as `cut` leaves them.
-pub fn field<'a, 'b>(s: &'a [u8], table: &'b [usize], count: usize, k: usize) -> &'a [u8]
-    ensures { λ r. ⌜ now r ≡ fieldBy (now (table .entry)) count k (now (s .entry)) ⌝ }
+// A place of a table, 0 past its end.
+fn place_at(table: &[usize], i: usize) -> usize
+    ensures { λ r. ⌜ r ≡ getD (now (table .entry)) i 0 ⌝ }
 {
-    let n = s.len();
-    if count < k {
-        return slice(s, n, n);
-    }
-    let end = end_of(table, count, k, n);
-    if k == 0 {
-        return slice(s, 0, end);
-    }
-    let before = place_at(table, k - 1);
-    if n <= before {
-        return slice(s, n, n);
-    }
-    slice(s, before + 1, end)
+    if i < table.len() { table[i] } else { 0 }
+}
+
+// 1 where two bytes are equal, else 0.
+fn one_if_equal(a: u8, b: u8) -> usize
+    ensures { λ r. ⌜ r ≡ cond (eqb a b) 1 0 ⌝ }
+{
+    if a == b { 1 } else { 0 }
 }

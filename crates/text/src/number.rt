@@ -6,37 +6,17 @@ ghost use Rattle.text.specs.Bytes.{between};
 ghost use Rattle.text.specs.Number.{numberAfter, number, isNumber, valueOf, Below};
 use crate::bytes::is_digit;
 
-// Is a number from low to high?
-pub fn is_between(low: u64, high: u64, n: u64) -> bool
-    ensures { λ r. ⌜ r ≡ between low high n ⌝ }
-{
-    low <= n && n <= high
-}
-
 // What a text says as a number.
 pub enum Number {
     Of(u64),
     Not,
 }
 
-// The number that at most 18 digits write.
-fn digits(s: &[u8]) -> Number
-    requires { ⌜ length (now s) ≤ 18 ⌝ }
-    ensures { λ r. ⌜ r ≡ numberAfter 0 (now (s .entry)) ⌝ }
-    ensures { λ r. ⌜ Below (10 ^ length (now (s .entry))) r ⌝ }
+// Is a number from low to high?
+pub fn is_between(low: u64, high: u64, n: u64) -> bool
+    ensures { λ r. ⌜ r ≡ between low high n ⌝ }
 {
-    let mut n: u64 = 0;
-    let mut i = 0;
-    while i < s.len() {
-        let b = s[i];
-        if is_digit(b) {
-            n = n * 10 + (b - b'0') as u64;
-            i += 1;
-        } else {
-            return Number::Not;
-        }
-    }
-    Number::Of(n)
+    low <= n && n <= high
 }
 
 // The number that a text of `least` to `most` digits writes.
@@ -74,4 +54,24 @@ pub fn value_of(read: Number) -> u64
         Number::Of(n) => n,
         Number::Not => 0,
     }
+}
+
+// The number that at most 18 digits write.
+fn digits(s: &[u8]) -> Number
+    requires { ⌜ length (now s) ≤ 18 ⌝ }
+    ensures { λ r. ⌜ r ≡ numberAfter 0 (now (s .entry)) ⌝ }
+    ensures { λ r. ⌜ Below (10 ^ length (now (s .entry))) r ⌝ }
+{
+    let mut n: u64 = 0;
+    let mut i = 0;
+    while i < s.len() {
+        let b = s[i];
+        if is_digit(b) {
+            n = n * 10 + (b - b'0') as u64;
+            i += 1;
+        } else {
+            return Number::Not;
+        }
+    }
+    Number::Of(n)
 }
