@@ -17,6 +17,7 @@ use memory::head::is_waiting;
 use memory::head::orders;
 use memory::head::returned;
 use memory::name::has_name_in_form;
+use money::Fee;
 use money::Sum;
 ghost use mathlib.Core.Path.{_≡_};
 ghost use Prim.Native.Nat.{_≤_, _<_};
