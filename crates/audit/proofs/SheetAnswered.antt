@@ -14,6 +14,7 @@ use Rattle.money.specs.declared.Money.{Money}
 use Rattle.money.specs.declared.Money.the-variants.{K, O}
 use Rattle.epe.specs.declared.ident.Ident.{Ident}
 use Rattle.epe.proofs.IdentLaws.{same-is-equal}
+use Rattle.epe.proofs.QuestionLaws.{asked-either}
 use Rattle.model.specs.Shipment.{Shipment}
 use Rattle.model.specs.Calls.{Call}
 use Rattle.model.specs.Book.{Book, isCalled, find, isUnknown}
@@ -23,7 +24,7 @@ use Rattle.model.proofs.SoundParts.{halves}
 use Rattle.model.proofs.Known.{found, passed, unknown-none}
 use Rattle.model.proofs.StaysSound.{always-sound}
 use Rattle.model.proofs.Conserved.{conserves, accepted-as-answered}
-use Rattle.sheet.specs.Sheet.{Sheet, rowFor, plusAll, withinCap, askSheet, sheetOf}
+use Rattle.sheet.specs.Sheet.{Sheet, rowFor, noSheet, sheetOf}
 use Rattle.sheet.specs.Parts.{Division, divisionOf}
 use Rattle.sheet.specs.declared.Sheeting.the-variants.{Filled}
 use Rattle.sheet.specs.declared.SheetRow.{SheetRow}
@@ -55,12 +56,6 @@ each-row P rest outside (s ∷ book) h holds (suc i) inside =
     each-row P rest outside book (search halves) (λ t here. holds t (still-found s t book (search halves) here)) i (omega arith)
 
 -- a sheet that is answered has a row for each shipment in front
-passes : (t : Bool) (number n : ℕ) (table : List SheetRow) (totals : Totals) (next : Sheet) → askSheet t number table totals next .answer ≡ Filled n
-    → askSheet t number table totals next ≡ next
-unfolding askSheet
-passes true number n table totals next filled = refl
-passes false number n table totals next filled = cc
-
 record Fills (book : Book) (table after : List SheetRow) (n : ℕ) : Type 0 where
   rows : after ≡ map rowFor book ++ drop (length book) table
   as-many : length book ≡ n
@@ -68,15 +63,10 @@ record Fills (book : Book) (table after : List SheetRow) (n : ℕ) : Type 0 wher
 fills : (book : Book) (table : List SheetRow) (totals : Totals) (n : ℕ) → sheetOf (some book) table totals .answer ≡ Filled n
     → Fills book table (sheetOf (some book) table totals .table) n
 unfolding sheetOf
-fills book table totals n filled =
-    let rows = map rowFor book in
-    let whole : Sheet = record { answer = Filled (length book); table = rows ++ drop (length book) table; totals = plusAll totals rows } in
-    let asked = askSheet (withinCap (plusAll totals rows)) 26 table totals whole in
-    let first = passes (leb (length book) (length table)) 25 n table totals asked filled in
-    let second = passes (withinCap (plusAll totals rows)) 26 n table totals whole (sym (ap (λ (x : Sheet). x .answer) first) ∙ filled) in
-    let all = first ∙ second in
-    let said = sym (ap (λ (x : Sheet). x .answer) all) ∙ filled in
-    record { rows = ap (λ (x : Sheet). x .table) all; as-many = cc }
+fills book table totals n =
+    asked-either (λ (x : Sheet). x .answer ≡ Filled n → Fills book table (x .table) n) _ (noSheet table totals) _
+    (λ number refused. let never : _≡_ {A = ℕ} 0 1 = cc in absurd (omega arith))
+    (λ yes filled. record { rows = refl; as-many = cc })
 
 -- the row of a shipment that its identifier finds, in document 01's book
 sums-of : (money : Money) (s : Shipment) → sums money (rowFor s) ≡ divisionOf money s

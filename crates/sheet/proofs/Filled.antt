@@ -11,6 +11,7 @@ use lib.Dec.{leb, ltb}
 use lib.ListN.{length, drop, set, length-set, length-drop}
 use lib.Seq.{drop-drop}
 use Rattle.text.proofs.Branches.{either-way}
+use Rattle.epe.specs.Questions.{asked}
 use Rattle.memory.specs.Layout.{size}
 use Rattle.memory.specs.Read.{shipmentsFrom, shipmentsIn, bookIn, soundIn, readBook}
 use Rattle.sound.proofs.ReadLaws.{sound-parts}
@@ -19,7 +20,7 @@ use Rattle.sheet.specs.declared.Sheeting.{Sheeting}
 use Rattle.sheet.specs.declared.Sheeting.the-variants.{Filled}
 use Rattle.sheet.specs.declared.SheetRow.{SheetRow}
 use Rattle.sheet.specs.declared.Totals.{Totals}
-use Rattle.sheet.specs.Sheet.{rowFor, plusAll, withinCap, askSheet, sheetOf}
+use Rattle.sheet.specs.Sheet.{rowFor, plusAll, withinCap, sheetOf}
 use Rattle.sheet.specs.Filling.{Stands, planOf, rowsToFill, answerOf, startOf, rowIn, filledTo, Fillable}
 use Rattle.sheet.proofs.Standing.{stands-first, sits-here, stands-next}
 use Rattle.sheet.proofs.Planning.{book-long}
@@ -112,12 +113,12 @@ module _ (m : List ℕ) (table : List SheetRow) (totals : Totals) where
 
   module _ (sound : soundIn m ≡ true) where
     too-many : leb (length (bookIn m)) room ≡ false → Comes (record { number = 25; totals = totals })
-    unfolding rowsToFill answerOf sheetOf readBook askSheet
+    unfolding rowsToFill answerOf sheetOf readBook asked
     too-many short = record { fillable = none-filled; sheet-is = rw (sound, short) }
 
     module _ (fits : leb (length (bookIn m)) room ≡ true) where
       too-much : withinCap (plusAll totals (map rowFor (bookIn m))) ≡ false → Comes (record { number = 26; totals = totals })
-      unfolding rowsToFill answerOf sheetOf readBook askSheet
+      unfolding rowsToFill answerOf sheetOf readBook asked
       too-much above = record { fillable = none-filled; sheet-is = rw (sound, fits, above) }
 
       enough : shipmentsIn m ≤ room
@@ -131,7 +132,7 @@ module _ (m : List ℕ) (table : List SheetRow) (totals : Totals) where
 
       none-refused : withinCap (plusAll totals (map rowFor (bookIn m))) ≡ true
           → Comes (record { number = 0; totals = plusAll totals (map rowFor (bookIn m)) })
-      unfolding rowsToFill answerOf sheetOf readBook askSheet
+      unfolding rowsToFill answerOf sheetOf readBook asked
       none-refused within =
           let count = book-long m in
           let many = sym count in

@@ -9,6 +9,7 @@ use lib.ListN.{length, drop}
 use Rattle.money.specs.Money.{amount, fee, isTotal}
 use Rattle.money.specs.declared.Money.{Money}
 use Rattle.money.specs.declared.Money.the-variants.{K, O}
+use Rattle.epe.specs.Questions.{Question, _elseNo_, asked}
 use Rattle.epe.specs.declared.ident.Ident.{Ident}
 use Rattle.model.specs.Shipment.{Shipment, accepted, returned, isPaired, onlyIf, sumOver, isPosted, isFaulty, isUndelivered, isWithdrawn}
 use Rattle.model.specs.Shipment.{waits, worth, free, held}
@@ -108,22 +109,20 @@ pub record Sheet : Type 0 where
   pub table : List SheetRow
   pub totals : Totals
 
--- A question: "no" answers its number and leaves the table and the totals as they were.
-unfoldable pub askSheet : Bool → ℕ → List SheetRow → Totals → Sheet → Sheet
-askSheet true number table totals next = next
-askSheet false number table totals next = record { answer = Refused number; table = table; totals = totals }
+-- A question answered no: its number is the answer, and the table and the totals are as they were.
+abbrev pub noSheet : List SheetRow → Totals → ℕ → Sheet
+noSheet table totals number = record { answer = Refused number; table = table; totals = totals }
 
 -- "After 10: table has a row for each shipment? 25. After adding, no total above 999,999,999,999,999? 26. Rows past the last are untouched."
 unfoldable pub sheetOf : Option Book → List SheetRow → Totals → Sheet
-sheetOf none table totals = record { answer = Refused 10; table = table; totals = totals }
+sheetOf none table totals = noSheet table totals 10
 sheetOf (some book) table totals =
-    askSheet (leb (length book) (length table)) 25 table totals
-    (askSheet (withinCap (plusAll totals (map rowFor book))) 26 table totals
+    asked ((leb (length book) (length table) elseNo 25) ∷ (withinCap (plusAll totals (map rowFor book)) elseNo 26) ∷ []) (noSheet table totals)
     (record {
       answer = Filled (length book);
       table = map rowFor book ++ drop (length book) table;
       totals = plusAll totals (map rowFor book);
-    }))
+    })
 
 -- The sheet that a clerk reads always balances: of a sound shipment, accepted is held, free and left together, in either money.
 abbrev pub Balances : Type 0
