@@ -16,7 +16,7 @@ use Rattle.memory.specs.Layout.{headBytes, rowBytes}
 use Rattle.memory.specs.States.{lastFault}
 use Rattle.memory.specs.Rows.{rowOf}
 use Rattle.memory.specs.Read.{rowsFrom, shipmentAt, shipmentsFrom, bookIn}
-use Rattle.memory.specs.Enter.{OrderEntered, HeadEntered}
+use Rattle.memory.specs.Inner.Enter.{OrderEntered, HeadEntered}
 use Rattle.memory.proofs.Parts.{number-heads, number-rows}
 use Rattle.memory.proofs.Frames.{heads-kept, rows-kept}
 use Rattle.book.specs.Place.{RowsStored}

@@ -10,7 +10,7 @@ use Rattle.model.specs.Calls.{Answer, changesNothing, Outcome, leave, withStage
 use Rattle.model.specs.declared.Row.{Row}
 use Rattle.model.specs.declared.Stage.{Stage}
 use Rattle.memory.specs.Read.{rowsFrom, ordersAt, shipmentAt, Sits}
-use Rattle.memory.specs.Stored.{withStageAt, withGoAheadAt, withTransfersAt, withSurplusAt}
+use Rattle.memory.specs.Inner.Stored.{withStageAt, withGoAheadAt, withTransfersAt, withSurplusAt}
 use Rattle.memory.proofs.HeadStores.{HeadChanged, stage-anew, go-ahead-anew, transfers-anew, surplus-anew}
 use Rattle.book.specs.Place.{ActAt}
 use Rattle.book.proofs.Acting.{head-changed}

@@ -23,7 +23,7 @@ use Rattle.memory.specs.Layout.{headBytes, rowBytes}
 use Rattle.memory.specs.Rows.{rowOf}
 use Rattle.memory.specs.Heads.{feeIn, stageIn, orderCountIn, shipmentIn}
 use Rattle.memory.specs.Read.{rowsFrom, ordersAt, shipmentAt, Sits}
-use Rattle.memory.specs.Stored.{codeOf, withCodeAt}
+use Rattle.memory.specs.Inner.Stored.{codeOf, withCodeAt}
 use Rattle.memory.proofs.Frames.{row-among}
 use Rattle.memory.proofs.StateLaws.{state-is-read-back}
 use Rattle.memory.proofs.RowLaws.{code-stored}

@@ -17,7 +17,7 @@ use Rattle.model.specs.declared.Stage.the-variants.{Paired}
 use Rattle.memory.specs.Layout.{headBytes}
 use Rattle.memory.specs.Heads.{feeIn, stageIn, goAheadIn, orderCountIn, transfersIn}
 use Rattle.memory.specs.Read.{rowsFrom, shipmentAt, Sits}
-use Rattle.memory.specs.Stored.{withStageAt, withGoAheadAt}
+use Rattle.memory.specs.Inner.Stored.{withStageAt, withGoAheadAt}
 use Rattle.book.specs.Place.{ActAt}
 use Rattle.memory.proofs.HeadFields.{waiting-is, go-ahead-is, accepted-is}
 use Rattle.book.proofs.Acting.{left-at, refused-at}

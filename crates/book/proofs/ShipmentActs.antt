@@ -15,7 +15,7 @@ use Rattle.model.specs.declared.Stage.the-variants.{Closed}
 use Rattle.memory.specs.Layout.{headBytes}
 use Rattle.memory.specs.Heads.{stageIn, transfersIn}
 use Rattle.memory.specs.Read.{shipmentAt, Sits}
-use Rattle.memory.specs.Stored.{withStageAt, withTransfersAt}
+use Rattle.memory.specs.Inner.Stored.{withStageAt, withTransfersAt}
 use Rattle.book.specs.Place.{ActAt}
 use Rattle.memory.proofs.HeadFields.{waiting-is, accepted-is}
 use Rattle.book.proofs.Acting.{refused-at}

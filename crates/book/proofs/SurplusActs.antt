@@ -16,7 +16,7 @@ use Rattle.model.proofs.SoundParts.{in-order}
 use Rattle.memory.specs.Layout.{headBytes}
 use Rattle.memory.specs.Heads.{stageIn, transfersIn, surplusIn}
 use Rattle.memory.specs.Read.{shipmentAt, Sits}
-use Rattle.memory.specs.Stored.{withSurplusAt}
+use Rattle.memory.specs.Inner.Stored.{withSurplusAt}
 use Rattle.book.specs.Place.{ActAt}
 use Rattle.memory.proofs.HeadFields.{waiting-is, paired-is, accepted-is, returned-is}
 use Rattle.book.proofs.Acting.{refused-at}

@@ -11,7 +11,7 @@ use Rattle.model.specs.declared.Route.{Route}
 use Rattle.memory.specs.Layout.{rowBytes}
 use Rattle.memory.specs.Rows.{rowOf}
 use Rattle.memory.specs.Read.{ordersAt, shipmentAt}
-use Rattle.memory.specs.Returns.{RowReturned}
+use Rattle.memory.specs.Inner.Returns.{RowReturned}
 use Rattle.book.specs.declared.route.Taken.{Taken}
 use Rattle.book.specs.declared.route.Waits.{Waits}
 use Rattle.book.specs.Place.{RowsStored}

@@ -26,7 +26,7 @@ ghost use Rattle.model.specs.declared.Route.{Route};
 ghost use Rattle.memory.specs.Layout.{size, IsRow};
 ghost use Rattle.memory.specs.Rows.{rowOf};
 ghost use Rattle.memory.specs.Read.{shipmentAt, Sits};
-ghost use Rattle.memory.specs.Returns.{WaitTable, IsWaitTable};
+ghost use Rattle.memory.specs.Inner.Returns.{WaitTable, IsWaitTable};
 ghost use Rattle.book.specs.Answers.{returningOf};
 ghost use Rattle.book.specs.Place.{ActAt};
 ghost use Rattle.book.specs.Waits.{IsFeeOf, RowCleared, Cleared};

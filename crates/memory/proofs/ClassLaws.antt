@@ -7,8 +7,8 @@ use native.Mathlib.Numerals.{add-one}
 use native.Mathlib.Omega.{arith}
 use lib.ListN.{length, getD, set}
 use Rattle.memory.specs.States.{lastCode, stateOf}
-use Rattle.memory.specs.Table.{listed}
-use Rattle.memory.specs.Classes.{classOf, classTable}
+use Rattle.memory.specs.Inner.Table.{listed}
+use Rattle.memory.specs.Inner.Classes.{classOf, classTable}
 
 -- the table of classes, at each byte
 listed-from : (f : ℕ → ℕ) (from n k : ℕ) → k < n → getD (listed f from n) k 0 ≡ f (from + k)

@@ -29,8 +29,8 @@ use Rattle.memory.specs.Layout.{headSize, rowSize, headAt, rowAt, size, 
 use Rattle.memory.specs.States.{lastFault}
 use Rattle.memory.specs.Rows.{rowOf}
 use Rattle.memory.specs.Heads.{feeIn, stageOf, flagsInForm, orderCountIn, shipmentIn}
-use Rattle.memory.specs.Stored.{codeOf, withCodeAt}
-use Rattle.memory.specs.Enter.{OrderEntered, HeadEntered, fieldsOf, HeadStored}
+use Rattle.memory.specs.Inner.Stored.{codeOf, withCodeAt}
+use Rattle.memory.specs.Inner.Enter.{OrderEntered, HeadEntered, fieldsOf, HeadStored}
 use Rattle.memory.proofs.Numbers.{stored-is-read}
 use Rattle.memory.proofs.Parts.{part-long, head-byte, head-byte-only, row-number, row-number-only}
 use Rattle.memory.proofs.Frames.{only-none, only-again}

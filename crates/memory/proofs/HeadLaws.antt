@@ -20,7 +20,7 @@ use Rattle.model.specs.declared.Stage.the-variants.{Waiting, Paired, Closed}
 use Rattle.memory.specs.Number.{numberAt, withNumber}
 use Rattle.memory.specs.Layout.{headSize, IsHead}
 use Rattle.memory.specs.Heads.{nameIn, agreedIn, stageOf, stageAt, stageIn, goAheadAt, goAheadIn, flagsInForm, orderCountIn, acceptedAt, returnedAt, sumsIn, shipmentIn}
-use Rattle.memory.specs.Stored.{stageByte, FieldStored}
+use Rattle.memory.specs.Inner.Stored.{stageByte, FieldStored}
 use Rattle.memory.proofs.Numbers.{stored-is-read}
 
 -- Two heads that are the same outside the bytes from one place up to another, which lie behind the name and the fee.

@@ -14,7 +14,7 @@ use Rattle.model.specs.declared.Row.{Row}
 use Rattle.model.specs.declared.Stage.{Stage}
 use Rattle.memory.specs.Layout.{headSize, headAt, size, headBytes, IsHead, OnlyHead}
 use Rattle.memory.specs.Heads.{stageAt, goAheadAt, flagsInForm, orderCountIn, acceptedAt, returnedAt, shipmentIn}
-use Rattle.memory.specs.Stored.{stageByte, withStageAt, withGoAheadAt, withTransfersAt, withSurplusAt}
+use Rattle.memory.specs.Inner.Stored.{stageByte, withStageAt, withGoAheadAt, withTransfersAt, withSurplusAt}
 use Rattle.memory.proofs.Parts.{part-long, head-byte, head-byte-only, head-number, head-number-only}
 use Rattle.memory.proofs.HeadLaws.{FormKept, number-keeps-form, stage-keeps-form, go-ahead-keeps-form, field-stored}
 

@@ -9,7 +9,7 @@ use lib.Dec.{eqb}
 use lib.ListN.{length, getD}
 use Rattle.calendar.proofs.Computed.{each}
 use Rattle.memory.specs.States.{lastCode, stateOf}
-use Rattle.memory.specs.Holdings.{holdingOf, holdingTable}
+use Rattle.memory.specs.Inner.Holdings.{holdingOf, holdingTable}
 
 -- what an order holds, at each byte
 held-right : ℕ → Bool

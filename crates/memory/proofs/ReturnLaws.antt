@@ -22,8 +22,8 @@ use Rattle.model.specs.declared.Row.{Row}
 use Rattle.memory.specs.Layout.{rowSize, rowAt, size, rowBytes}
 use Rattle.memory.specs.States.{kWaits, oWaits, stateOf}
 use Rattle.memory.specs.Rows.{stateAt, rowOf}
-use Rattle.memory.specs.Stored.{withCodeAt}
-use Rattle.memory.specs.Returns.{waitsIn, stateAfter, routeHas, codeWaits, waitIn, codeAfter, WaitTable, RowReturned}
+use Rattle.memory.specs.Inner.Stored.{withCodeAt}
+use Rattle.memory.specs.Inner.Returns.{waitsIn, stateAfter, routeHas, codeWaits, waitIn, codeAfter, WaitTable, RowReturned}
 use Rattle.memory.proofs.StateLaws.{alike, alike-equal, agree, agree-equal}
 use Rattle.memory.proofs.RowLaws.{code-stored}
 

@@ -12,7 +12,7 @@ use Rattle.memory.specs.Number.{numberAt}
 use Rattle.memory.specs.Layout.{rowSize, rowAt, size, rowBytes, IsRow}
 use Rattle.memory.specs.States.{stateOf}
 use Rattle.memory.specs.Rows.{stateAt, rowOf}
-use Rattle.memory.specs.Stored.{withCodeAt, CodeStored}
+use Rattle.memory.specs.Inner.Stored.{withCodeAt, CodeStored}
 use Rattle.memory.proofs.Parts.{part-long, row-byte, row-byte-only}
 
 -- the byte of state of a row of its own

@@ -18,7 +18,7 @@ use Rattle.model.specs.declared.State.{State}
 use Rattle.model.specs.declared.State.the-variants.{Open, Posted, Paid, Faulty, Undelivered, Withdrawn}
 use Rattle.model.proofs.SoundParts.{where-first}
 use Rattle.memory.specs.States.{lastFault, stateOf}
-use Rattle.memory.specs.Stored.{codeOf, StateIsReadBack}
+use Rattle.memory.specs.Inner.Stored.{codeOf, StateIsReadBack}
 
 -- a state in numbers and back, so that two states can be compared by computation
 abbrev parts : State → List ℕ

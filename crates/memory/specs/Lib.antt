@@ -1,12 +1,9 @@
+-- In the order in which to read them.
 pub mod Number
 pub mod Layout
 pub mod States
 pub mod Rows
 pub mod Heads
 pub mod Read
-pub mod Stored
-pub mod Enter
-pub mod Table
-pub mod Classes
-pub mod Returns
-pub mod Holdings
+-- What a buyer need not read.
+pub mod Inner

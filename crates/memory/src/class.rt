@@ -4,7 +4,7 @@ ghost use mathlib.Core.Path.{_≡_};
 ghost use Rattle.memory.specs.Layout.{IsRow};
 ghost use Rattle.memory.specs.States.{stateOf};
 ghost use Rattle.memory.specs.Rows.{rowOf};
-ghost use Rattle.memory.specs.Classes.{classOf, classTable};
+ghost use Rattle.memory.specs.Inner.Classes.{classOf, classTable};
 
 // How many bytes may say a state.
 const CODES: usize = LAST_CODE as usize + 1;

@@ -25,7 +25,7 @@ ghost use Rattle.model.specs.Shipment.{mostShipments, mostRows};
 ghost use Rattle.model.specs.Book.{enteredRow};
 ghost use Rattle.memory.specs.Layout.{size};
 ghost use Rattle.memory.specs.States.{lastFault};
-ghost use Rattle.memory.specs.Enter.{OrderEntered, HeadEntered, fieldsOf, HeadStored};
+ghost use Rattle.memory.specs.Inner.Enter.{OrderEntered, HeadEntered, fieldsOf, HeadStored};
 
 // Enters an order in row k.
 pub fn enter_order(memory: &mut [u8], k: usize, order: Order)

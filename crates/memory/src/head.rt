@@ -19,7 +19,7 @@ ghost use Rattle.money.specs.declared.Money.the-variants.{K, O};
 ghost use Rattle.model.specs.Shipment.{mostShipments, mostRows, isWaiting, isPaired};
 ghost use Rattle.memory.specs.Layout.{headSize, size, headBytes, IsHead};
 ghost use Rattle.memory.specs.Heads.{feeIn, stageIn, goAheadIn, flagsInForm, orderCountIn, acceptedAt, transfersIn, returnedAt, surplusIn};
-ghost use Rattle.memory.specs.Stored.{stageByte, withStageAt, withGoAheadAt, withTransfersAt, withSurplusAt};
+ghost use Rattle.memory.specs.Inner.Stored.{stageByte, withStageAt, withGoAheadAt, withTransfersAt, withSurplusAt};
 
 // Where the length of the identifier lies, behind the identifier, which is the first field.
 pub const LENGTH: usize = 17;

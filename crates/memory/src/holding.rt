@@ -5,7 +5,7 @@ ghost use mathlib.Core.Path.{_≡_};
 ghost use Rattle.memory.specs.Layout.{IsRow};
 ghost use Rattle.memory.specs.States.{stateOf};
 ghost use Rattle.memory.specs.Rows.{rowOf};
-ghost use Rattle.memory.specs.Holdings.{holdingOf, holdingTable};
+ghost use Rattle.memory.specs.Inner.Holdings.{holdingOf, holdingTable};
 
 // The first byte that says no state, and so do all behind it: one entry tells of them all.
 const NO_STATE: usize = LAST_CODE as usize + 1;

@@ -14,7 +14,7 @@ ghost use Rattle.model.specs.Shipment.{mostRows};
 ghost use Rattle.memory.specs.Layout.{size, rowBytes, IsRow};
 ghost use Rattle.memory.specs.States.{stateOf};
 ghost use Rattle.memory.specs.Rows.{rowOf, stateBitsIn};
-ghost use Rattle.memory.specs.Stored.{codeOf, withCodeAt};
+ghost use Rattle.memory.specs.Inner.Stored.{codeOf, withCodeAt};
 
 // Where the byte of state lies. The amount is the first field.
 pub const STATE: usize = 4;

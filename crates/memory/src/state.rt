@@ -4,7 +4,7 @@ use text::bytes::is_between;
 ghost use mathlib.Core.Path.{_≡_};
 ghost use Prim.Native.Nat.{_+_, _*_, _-_, _/_, _%_, _≤_};
 ghost use Rattle.memory.specs.States.{kWaits, oWaits, saysUndelivered, saysWithdrawn, saysFaulty, stateOf};
-ghost use Rattle.memory.specs.Stored.{waitsCode, codeOf};
+ghost use Rattle.memory.specs.Inner.Stored.{waitsCode, codeOf};
 
 // The last fault of an order.
 pub const LAST_FAULT: u8 = 10;

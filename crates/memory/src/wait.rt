@@ -17,7 +17,7 @@ ghost use Rattle.model.specs.Shipment.{mostRows, byMoney};
 ghost use Rattle.model.specs.declared.Route.{Route};
 ghost use Rattle.memory.specs.Layout.{size};
 ghost use Rattle.memory.specs.States.{kWaits, oWaits};
-ghost use Rattle.memory.specs.Returns.{routeHas, codeWaits, waitIn, WaitTable, IsWaitTable, RowReturned};
+ghost use Rattle.memory.specs.Inner.Returns.{routeHas, codeWaits, waitIn, WaitTable, IsWaitTable, RowReturned};
 
 // What the wait of a money adds to a byte of state.
 pub fn wait_of(money: Money) -> u8

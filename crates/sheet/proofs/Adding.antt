@@ -14,11 +14,11 @@ use Rattle.memory.specs.Layout.{headBytes, rowBytes}
 use Rattle.memory.specs.Rows.{rowOf}
 use Rattle.memory.specs.Heads.{stageIn, orderCountIn, shipmentIn}
 use Rattle.memory.specs.Read.{rowsFrom, ordersAt, shipmentAt, Sits}
-use Rattle.memory.specs.Holdings.{holdingOf}
+use Rattle.memory.specs.Inner.Holdings.{holdingOf}
 use Rattle.sound.proofs.ReadLaws.{rows-many, rows-on, rows-done}
 use Rattle.memory.proofs.HeadFields.{orders-are, paired-is}
 use Rattle.sheet.specs.declared.row.Parts.{Parts}
-use Rattle.sheet.specs.Parts.{amountOfRow, heldByRow, holdersOfRow, noParts, withOrder, partsOf, partsOncePaired, SmallParts}
+use Rattle.sheet.specs.Inner.Parts.{amountOfRow, heldByRow, holdersOfRow, noParts, withOrder, partsOf, partsOncePaired, SmallParts}
 
 at-most : (t : Bool) (n : ℕ) → onlyIf t n ≤ n
 at-most true n = omega arith

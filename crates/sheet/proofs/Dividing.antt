@@ -19,7 +19,7 @@ use Rattle.memory.proofs.HeadFields.{accepted-is, returned-is}
 use Rattle.sound.proofs.ReadLaws.{rows-many}
 use Rattle.sheet.specs.declared.row.Parts.{Parts}
 use Rattle.sheet.specs.Sheet.{left}
-use Rattle.sheet.specs.Parts.{holdersOfRow, noParts, partsOf, partsOncePaired, divided, divisionOf}
+use Rattle.sheet.specs.Inner.Parts.{holdersOfRow, noParts, partsOf, partsOncePaired, divided, divisionOf}
 use Rattle.sheet.proofs.Balance.{balances}
 
 -- the fee as often as orders hold it

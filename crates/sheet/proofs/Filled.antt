@@ -21,7 +21,7 @@ use Rattle.sheet.specs.declared.Sheeting.the-variants.{Filled}
 use Rattle.sheet.specs.declared.SheetRow.{SheetRow}
 use Rattle.sheet.specs.declared.Totals.{Totals}
 use Rattle.sheet.specs.Sheet.{rowFor, plusAll, withinCap, sheetOf}
-use Rattle.sheet.specs.Filling.{Stands, planOf, rowsToFill, answerOf, startOf, rowIn, filledTo, Fillable}
+use Rattle.sheet.specs.Inner.Filling.{Stands, planOf, rowsToFill, answerOf, startOf, rowIn, filledTo, Fillable}
 use Rattle.sheet.proofs.Standing.{stands-first, sits-here, stands-next}
 use Rattle.sheet.proofs.Planning.{book-long}
 

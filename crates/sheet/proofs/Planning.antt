@@ -17,7 +17,7 @@ use Rattle.sheet.specs.declared.Totals.{Totals}
 use Rattle.sheet.specs.declared.total.Adding.{Adding}
 use Rattle.sheet.specs.declared.total.Adding.the-variants.{Added, Above}
 use Rattle.sheet.specs.Sheet.{rowFor, plusAll, withinCap}
-use Rattle.sheet.specs.Filling.{addingOf, planOf}
+use Rattle.sheet.specs.Inner.Filling.{addingOf, planOf}
 
 pub book-long : (m : List ℕ) → length (bookIn m) ≡ shipmentsIn m
 unfolding bookIn

@@ -11,7 +11,7 @@ use Rattle.model.proofs.SoundParts.{halves}
 use Rattle.memory.specs.Read.{ordersAt, shipmentAt, shipmentsFrom, shipmentsIn, bookIn, soundIn, Sits}
 use Rattle.sound.proofs.ReadLaws.{rows-next, sound-parts}
 use Rattle.sheet.specs.Sheet.{rowFor}
-use Rattle.sheet.specs.Filling.{Stands}
+use Rattle.sheet.specs.Inner.Filling.{Stands}
 
 pub stands-first : (m : List ℕ) → soundIn m ≡ true → Stands m 0 0 (shipmentsIn m)
 unfolding bookIn

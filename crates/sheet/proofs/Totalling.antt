@@ -20,7 +20,7 @@ use Rattle.sheet.specs.declared.Totals.{Totals}
 use Rattle.sheet.specs.declared.total.Adding.{Adding}
 use Rattle.sheet.specs.declared.total.Adding.the-variants.{Added, Above}
 use Rattle.sheet.specs.Sheet.{left, rowFor, plus, plusAll, fourWithin, amountsWithin, feesWithin, withinCap}
-use Rattle.sheet.specs.Filling.{Stands, Within, TotalsWithin, RowWithin, addingOf}
+use Rattle.sheet.specs.Inner.Filling.{Stands, Within, TotalsWithin, RowWithin, addingOf}
 use Rattle.sheet.proofs.Balance.{balances}
 use Rattle.sheet.proofs.Standing.{stands-first, sits-here, stands-next, row-then, rows-end}
 

@@ -1,4 +1,5 @@
+-- In the order in which to read them.
 pub mod Sheet
-pub mod Parts
-pub mod Filling
 pub mod Zs1
+-- What a buyer need not read.
+pub mod Inner

@@ -17,7 +17,7 @@ ghost use mathlib.Core.Path.{_≡_};
 ghost use lib.ListN.{length};
 ghost use Rattle.memory.specs.Read.{readBook, Sits};
 ghost use Rattle.sheet.specs.Sheet.{sheetOf};
-ghost use Rattle.sheet.specs.Filling.{planOf, rowsToFill, answerOf, lineAt, filledTo, Fillable};
+ghost use Rattle.sheet.specs.Inner.Filling.{planOf, rowsToFill, answerOf, lineAt, filledTo, Fillable};
 
 // What was accepted, is held, is free and has left, in K.
 #[repr(C)]

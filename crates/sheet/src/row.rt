@@ -24,9 +24,9 @@ ghost use Rattle.model.specs.Shipment.{mostRows};
 ghost use Rattle.memory.specs.Layout.{size, IsRow};
 ghost use Rattle.memory.specs.Rows.{rowOf};
 ghost use Rattle.memory.specs.Read.{rowsFrom, shipmentAt, Sits};
-ghost use Rattle.memory.specs.Holdings.{holdingTable};
+ghost use Rattle.memory.specs.Inner.Holdings.{holdingTable};
 ghost use Rattle.sheet.specs.Sheet.{amountsOf, feesOf, rowFor};
-ghost use Rattle.sheet.specs.Parts.{noParts, withOrder, partsOf, partsOncePaired, SmallParts, divided, amountsFrom, feesFrom};
+ghost use Rattle.sheet.specs.Inner.Parts.{noParts, withOrder, partsOf, partsOncePaired, SmallParts, divided, amountsFrom, feesFrom};
 
 // Of orders: how many, all their amounts, the amounts held, and how many hold a fee.
 pub struct Parts {

@@ -13,7 +13,7 @@ ghost use mathlib.Core.Bool.{true};
 ghost use mathlib.Core.List.{map};
 ghost use Rattle.memory.specs.Read.{shipmentsIn, bookIn, soundIn};
 ghost use Rattle.sheet.specs.Sheet.{rowFor, plusAmounts, plusFees, plus, amountsWithin, feesWithin, withinCap};
-ghost use Rattle.sheet.specs.Filling.{AmountsWithin, FeesWithin, TotalsWithin, RowWithin, addingOf};
+ghost use Rattle.sheet.specs.Inner.Filling.{AmountsWithin, FeesWithin, TotalsWithin, RowWithin, addingOf};
 
 // Totals with rows added, or one of them is above the cap.
 pub enum Adding {

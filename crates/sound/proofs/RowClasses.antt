@@ -18,7 +18,7 @@ use Rattle.model.specs.declared.Row.{Row}
 use Rattle.model.specs.declared.Stage.{Stage}
 use Rattle.model.specs.declared.State.{State}
 use Rattle.model.proofs.SoundParts.{halves}
-use Rattle.memory.specs.Classes.{classOf}
+use Rattle.memory.specs.Inner.Classes.{classOf}
 use Rattle.sound.specs.Tally.{outIn, joined}
 
 -- what is joined is no less than its parts, and below 2 or 4 where they are

@@ -14,7 +14,7 @@ use Rattle.model.specs.declared.Row.{Row}
 use Rattle.memory.specs.Layout.{rowBytes}
 use Rattle.memory.specs.Rows.{rowOf}
 use Rattle.memory.specs.Read.{rowsFrom}
-use Rattle.memory.specs.Classes.{classOf}
+use Rattle.memory.specs.Inner.Classes.{classOf}
 use Rattle.sound.specs.declared.tally.Tally.{Tally}
 use Rattle.sound.specs.Tally.{outIn, joined, tallied, tallyOf}
 use Rattle.sound.proofs.ReadLaws.{rows-on, rows-done}

@@ -14,7 +14,7 @@ use Rattle.model.specs.Shipment.{isWaiting, isPaired, onlyIf, sumOver}
 use Rattle.model.specs.Sound.{shipmentSound}
 use Rattle.model.specs.declared.Row.{Row}
 use Rattle.memory.specs.Heads.{nameIn, feeIn, stageIn, goAheadIn, transfersIn, surplusIn, shipmentIn}
-use Rattle.memory.specs.Classes.{classOf}
+use Rattle.memory.specs.Inner.Classes.{classOf}
 use Rattle.sound.specs.declared.tally.Tally.{Tally}
 
 -- A row joins its state's class, and counts where its amount is out of range.

@@ -26,7 +26,7 @@ ghost use Rattle.money.specs.Money.{fee, isOrderFee, WithinSum, sumOf, groszeIn
 ghost use Rattle.model.specs.Shipment.{mostShipments, mostRows, onlyIf};
 ghost use Rattle.memory.specs.Layout.{size, IsHead};
 ghost use Rattle.memory.specs.Heads.{feeIn};
-ghost use Rattle.memory.specs.Classes.{classTable};
+ghost use Rattle.memory.specs.Inner.Classes.{classTable};
 ghost use Rattle.sound.specs.Tally.{pairedIn, rowsFit, goAheadFits, isCovered, moneyFits, moneysFit, judged};
 ghost use Rattle.sound.specs.Walk.{soundAt, soundFrom};
 

@@ -11,7 +11,7 @@ ghost use Rattle.model.specs.Shipment.{mostRows};
 ghost use Rattle.memory.specs.Layout.{size, IsRow};
 ghost use Rattle.memory.specs.Rows.{rowOf};
 ghost use Rattle.memory.specs.Read.{rowsFrom};
-ghost use Rattle.memory.specs.Classes.{classTable};
+ghost use Rattle.memory.specs.Inner.Classes.{classTable};
 ghost use Rattle.sound.specs.Tally.{tallied, tallyOf, faultyIn};
 
 // The classes from here on are of states that only a Paired shipment may have.

@@ -11,7 +11,7 @@ use lib.ListN.{length, getD, take, drop, length-take, length-drop, drop-of-lengt
 use lib.Seq.{drop-drop, getD-drop, getD-take}
 use borrow.Author.Tests.{eq-eqb, ne-eqb}
 use Rattle.text.specs.Utf8.{ascii, tailOctet, widthAt, wellFormedAfter, wellFormed, starts, codePoints}
-use Rattle.text.specs.Utf8Steps.{Past}
+use Rattle.text.specs.Inner.Utf8Steps.{Past}
 use Rattle.text.proofs.Branches.{cond-either}
 use Rattle.text.proofs.Places.{from-here}
 use Rattle.text.proofs.Utf8Laws.{by-ascii, ends-within}

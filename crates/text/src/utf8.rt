@@ -5,7 +5,7 @@ ghost use Prim.Native.Nat.{ℕ, _+_, _*_, _%_, _<_, _≤_};
 ghost use lib.ListN.{length, getD, drop};
 ghost use Rattle.text.specs.Utf8.{ascii, tailOctet, lead2, lead3, lead4, point2, point3, point4, surrogate, range2, range3, range4};
 ghost use Rattle.text.specs.Utf8.{row2, row3, row4, width, widthAt, wellFormed, starts, codePoints};
-ghost use Rattle.text.specs.Utf8Steps.{Past};
+ghost use Rattle.text.specs.Inner.Utf8Steps.{Past};
 use crate::bytes::byte_at;
 
 // How many octets are taken at once where all are ASCII. Few, since a Polish record has a character that is not in every two dozen octets or so.

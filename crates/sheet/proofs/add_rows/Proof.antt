@@ -42,7 +42,7 @@ use denote.Triple.Walked.{says, Stays, stay-ref, stay-none, stay-none-slice, wal
 use denote.Triple.Clauses.{ensured, lasts}
 use denote.Exit.{yes}
 use Rattle.memory.specs.Read.{readBook}
-use Rattle.sheet.specs.Filling.{planOf}
+use Rattle.sheet.specs.Inner.Filling.{planOf}
 use Rattle.sheet.specs.declared.Plan.{Plan}
 use Rattle.sheet.specs.declared.Totals.{Totals}
 use Rattle.sheet.proofs.Totals as T

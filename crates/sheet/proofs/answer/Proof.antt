@@ -1,6 +1,6 @@
 -- `sheet::answer` goes by the number.
 use Rattle.text.proofs.Branches.{branches}
-use Rattle.sheet.specs.Filling.{answerOf}
+use Rattle.sheet.specs.Inner.Filling.{answerOf}
 use Rattle.sheet.proofs.answer.Statement.{statement}
 use Rattle.sheet.proofs.answer.Tie as tie
 

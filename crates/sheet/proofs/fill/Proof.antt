@@ -49,7 +49,7 @@ use denote.Triple.Walked.{says, needs, Stays, stay-slice, stay-none, stay-none-s
 use denote.Triple.Clauses.{ensured, lasts}
 use denote.Exit.{yes}
 use Rattle.memory.specs.Read.{Sits}
-use Rattle.sheet.specs.Filling.{lineAt, startOf, rowIn, filledTo, Fillable}
+use Rattle.sheet.specs.Inner.Filling.{lineAt, startOf, rowIn, filledTo, Fillable}
 use Rattle.sheet.specs.declared.Line.{Line}
 use Rattle.sheet.specs.declared.SheetRow.{SheetRow}
 use Rattle.sheet.proofs.Filled.{length-filled, filled-next}

@@ -1,6 +1,6 @@
 -- `sheet::rows_to_fill` counts the shipments unless the sheet is refused.
 use Rattle.text.proofs.Branches.{branches}
-use Rattle.sheet.specs.Filling.{rowsToFill}
+use Rattle.sheet.specs.Inner.Filling.{rowsToFill}
 use borrow.Author.Needs.{needs}
 use Rattle.sheet.proofs.rows_to_fill.Statement.{statement}
 use Rattle.sheet.proofs.rows_to_fill.Tie as tie

@@ -42,7 +42,7 @@ use denote.Triple.Clauses.{ensured, lasts}
 use denote.Exit.{yes}
 use Rattle.memory.specs.Read.{readBook}
 use Rattle.sheet.specs.Sheet.{sheetOf}
-use Rattle.sheet.specs.Filling.{planOf, rowsToFill, answerOf, filledTo, Fillable}
+use Rattle.sheet.specs.Inner.Filling.{planOf, rowsToFill, answerOf, filledTo, Fillable}
 use Rattle.sheet.specs.declared.Sheeting.{Sheeting}
 use Rattle.sheet.specs.declared.SheetRow.{SheetRow}
 use Rattle.sheet.specs.declared.Totals.{Totals}

@@ -6,7 +6,7 @@ use Rattle.money.specs.declared.Fee.{Fee}
 use Rattle.model.specs.Shipment.{Shipment}
 use Rattle.model.specs.declared.Route.{Route}
 use Rattle.memory.specs.Read.{shipmentAt}
-use Rattle.memory.specs.Returns.{WaitTable}
+use Rattle.memory.specs.Inner.Returns.{WaitTable}
 use Rattle.book.specs.Waits.{IsFeeOf}
 use Rattle.book.proofs.Returns.{Clearing, none-cleared, one-more-cleared, worth-is, all-cleared, is-fee-of, count-at}
 use borrow.Author.Needs.{needs}

@@ -2,7 +2,7 @@
 use mathlib.Core.Path.{_≡_, refl, _∙_}
 use Prim.Native.Nat.{_-_}
 use Rattle.memory.specs.States.{stateOf}
-use Rattle.memory.specs.Classes.{classTable}
+use Rattle.memory.specs.Inner.Classes.{classTable}
 use Rattle.memory.proofs.ClassLaws.{copied, copied-on, copied-all}
 use borrow.Author.Needs.{needs}
 use Rattle.memory.proofs.class.class_table.Statement.{statement}

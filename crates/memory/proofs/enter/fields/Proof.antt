@@ -3,7 +3,7 @@ use mathlib.Core.Path.{refl}
 use native.Mathlib.Omega.{arith}
 use lib.ListN.{length-set}
 use Rattle.memory.specs.Number.{withNumber}
-use Rattle.memory.specs.Enter.{fieldsOf}
+use Rattle.memory.specs.Inner.Enter.{fieldsOf}
 use borrow.Author.Needs.{needs}
 use Rattle.memory.proofs.enter.fields.Statement.{statement}
 use Rattle.memory.proofs.enter.fields.Tie as tie

@@ -1,7 +1,7 @@
 -- `memory::holding::holding_table` is the table by computation.
 use mathlib.Core.Path.{refl}
 use Rattle.memory.specs.States.{stateOf}
-use Rattle.memory.specs.Holdings.{holdingTable}
+use Rattle.memory.specs.Inner.Holdings.{holdingTable}
 use Rattle.memory.proofs.holding.holding_table.Statement.{statement}
 use Rattle.memory.proofs.holding.holding_table.Tie as tie
 

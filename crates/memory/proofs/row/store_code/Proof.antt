@@ -1,5 +1,5 @@
 -- `memory::row::store_code` stores one byte.
-use Rattle.memory.specs.Stored.{withCodeAt}
+use Rattle.memory.specs.Inner.Stored.{withCodeAt}
 use borrow.Author.Needs.{needs}
 use Rattle.memory.proofs.row.store_code.Statement.{statement}
 use Rattle.memory.proofs.row.store_code.Tie as tie

@@ -3,7 +3,7 @@ use mathlib.Core.Path.{ap, _∙_}
 use Rattle.money.specs.declared.Amount.{Amount}
 use Rattle.money.specs.declared.Money.the-variants.{K}
 use Rattle.memory.proofs.HeadFields.{accepted-within, returned-within}
-use Rattle.sheet.specs.Parts.{amountsFrom}
+use Rattle.sheet.specs.Inner.Parts.{amountsFrom}
 use Rattle.sheet.proofs.Dividing.{amounts-needed, amounts-held, division-is}
 use borrow.Author.Needs.{needs}
 use Rattle.sheet.proofs.row.amounts_at.Statement.{statement}

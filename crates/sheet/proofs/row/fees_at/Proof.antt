@@ -4,7 +4,7 @@ use Prim.Native.Nat.{ℕ}
 use Rattle.money.specs.declared.Fee.{Fee}
 use Rattle.money.specs.declared.Money.the-variants.{O}
 use Rattle.memory.proofs.HeadFields.{fee-is, accepted-within, returned-within}
-use Rattle.sheet.specs.Parts.{feesFrom}
+use Rattle.sheet.specs.Inner.Parts.{feesFrom}
 use Rattle.sheet.proofs.Dividing.{fees-needed, fees-held, few-parts, division-is}
 use borrow.Author.Needs.{needs}
 use Rattle.sheet.proofs.row.fees_at.Statement.{statement}

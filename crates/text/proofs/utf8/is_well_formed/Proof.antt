@@ -3,7 +3,7 @@ use mathlib.Core.Path.{sym, _∙_}
 use Prim.Native.Nat.{_-_}
 use native.Mathlib.Omega.{arith}
 use lib.ListN.{length}
-use Rattle.text.specs.Utf8Steps.{Past}
+use Rattle.text.specs.Inner.Utf8Steps.{Past}
 use Rattle.text.proofs.Utf8Places.{past-nothing, past-both, past-to-end}
 use Rattle.text.proofs.utf8.is_well_formed.Statement.{statement}
 use Rattle.text.proofs.utf8.is_well_formed.Tie as tie

@@ -3,7 +3,7 @@ use mathlib.Core.Path.{sym, _∙_}
 use Prim.Native.Nat.{_-_}
 use native.Mathlib.Omega.{arith}
 use borrow.Author.Needs.{needs}
-use Rattle.text.specs.Utf8Steps.{Past}
+use Rattle.text.specs.Inner.Utf8Steps.{Past}
 use Rattle.text.proofs.Utf8Laws.{width-at-most-four}
 use Rattle.text.proofs.Utf8Places.{past-nothing, past-both, past-character, past-octet, past-to-fault}
 use Rattle.text.proofs.utf8.past_characters.Statement.{statement}

@@ -6,7 +6,7 @@ use Rattle.model.specs.Shipment.{onlyIf, isFaulty}
 use Rattle.model.specs.Sound.{faultInRange, beforePairing}
 use Rattle.model.specs.declared.State.{State}
 use Rattle.memory.specs.States.{stateOf}
-use Rattle.memory.specs.Table.{listed}
+use Rattle.memory.specs.Inner.Table.{listed}
 
 -- What soundness asks of a state, as bits to join over a shipment's rows: 1 where it is Faulty, 2 where only a Paired shipment may have it, 4 where
 -- its fault is out of range.

@@ -5,7 +5,7 @@ use Rattle.money.specs.declared.Money.the-variants.{K, O}
 use Rattle.model.specs.Shipment.{onlyIf, holds}
 use Rattle.model.specs.declared.State.{State}
 use Rattle.memory.specs.States.{lastCode, stateOf}
-use Rattle.memory.specs.Table.{listed}
+use Rattle.memory.specs.Inner.Table.{listed}
 
 -- Which moneys an order in a state holds in a Paired shipment, as one number: 1 for K, and 2 more for O.
 abbrev pub holdingOf : State → ℕ
