@@ -1,6 +1,6 @@
 pub mod ReadLaws
 pub mod RowClasses
 pub mod Tallying
-pub mod Judging
-pub mod Walking
-pub mod Turns
+pub mod JudgedIsSound
+pub mod HeadByHead
+pub mod WalkIsSound

@@ -19,7 +19,7 @@ use Rattle.model.specs.declared.Stage.{Stage}
 use Rattle.model.specs.declared.State.{State}
 use Rattle.model.proofs.SoundParts.{halves}
 use Rattle.memory.specs.Inner.Classes.{classOf}
-use Rattle.sound.specs.Tally.{outIn, joined}
+use Rattle.sound.specs.Inner.Tally.{outIn, joined}
 
 -- what is joined is no less than its parts, and below 2 or 4 where they are
 join-first : (a b : ℕ) → a ≤ bitOr a b

@@ -16,7 +16,7 @@ use Rattle.memory.specs.Rows.{rowOf}
 use Rattle.memory.specs.Read.{rowsFrom}
 use Rattle.memory.specs.Inner.Classes.{classOf}
 use Rattle.sound.specs.declared.tally.Tally.{Tally}
-use Rattle.sound.specs.Tally.{outIn, joined, tallied, tallyOf}
+use Rattle.sound.specs.Inner.Tally.{outIn, joined, tallied, tallyOf}
 use Rattle.sound.proofs.ReadLaws.{rows-on, rows-done}
 
 abbrev amountIn : Row → ℕ

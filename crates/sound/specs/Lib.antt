@@ -1,2 +1,2 @@
-pub mod Tally
-pub mod Walk
+-- What a buyer need not read.
+pub mod Inner

@@ -6,7 +6,24 @@ ghost use Prim.Native.Nat.{_+_, _≤_, _<_};
 ghost use lib.ListN.{length};
 ghost use Rattle.model.specs.Shipment.{mostShipments};
 ghost use Rattle.memory.specs.Layout.{size, headBytes};
-ghost use Rattle.sound.specs.Walk.{othersFrom, apartFrom};
+ghost use Rattle.sound.specs.Inner.Walk.{othersFrom, apartFrom};
+
+// Are the identifiers of n heads all different?
+pub fn are_apart(memory: &[u8], n: usize) -> bool
+    requires { ⌜ (n ≤ mostShipments) × (size ≤ length (now memory)) ⌝ }
+    ensures { λ r. ⌜ r ≡ apartFrom (now (memory .entry)) 0 n ⌝ }
+{
+    let mut i = 0;
+    let mut left = n;
+    while 0 < left {
+        if !are_others(memory, i, i + 1, left - 1) {
+            return false;
+        }
+        i += 1;
+        left -= 1;
+    }
+    true
+}
 
 // Have n heads from the j-th on another identifier than head i?
 fn are_others(memory: &[u8], i: usize, from: usize, n: usize) -> bool
@@ -21,23 +38,6 @@ fn are_others(memory: &[u8], i: usize, from: usize, n: usize) -> bool
             return false;
         }
         j += 1;
-        left -= 1;
-    }
-    true
-}
-
-// Are the identifiers of n heads all different?
-pub fn are_apart(memory: &[u8], n: usize) -> bool
-    requires { ⌜ (n ≤ mostShipments) × (size ≤ length (now memory)) ⌝ }
-    ensures { λ r. ⌜ r ≡ apartFrom (now (memory .entry)) 0 n ⌝ }
-{
-    let mut i = 0;
-    let mut left = n;
-    while 0 < left {
-        if !are_others(memory, i, i + 1, left - 1) {
-            return false;
-        }
-        i += 1;
         left -= 1;
     }
     true

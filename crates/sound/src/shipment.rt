@@ -27,8 +27,57 @@ ghost use Rattle.model.specs.Shipment.{mostShipments, mostRows, onlyIf};
 ghost use Rattle.memory.specs.Layout.{size, IsHead};
 ghost use Rattle.memory.specs.Heads.{feeIn};
 ghost use Rattle.memory.specs.Inner.Classes.{classTable};
-ghost use Rattle.sound.specs.Tally.{pairedIn, rowsFit, goAheadFits, isCovered, moneyFits, moneysFit, judged};
-ghost use Rattle.sound.specs.Walk.{soundAt, soundFrom};
+ghost use Rattle.sound.specs.Inner.Tally.{pairedIn, rowsFit, goAheadFits, isCovered, moneyFits, moneysFit, judged};
+ghost use Rattle.sound.specs.Inner.Walk.{soundAt, soundFrom};
+
+// Are n shipments sound, each by itself?
+pub fn are_sound(memory: &[u8], n: usize, table: &[u8]) -> bool
+    requires { ⌜ (n ≤ mostShipments) × (size ≤ length (now memory)) × (now table ≡ classTable) ⌝ }
+    ensures { λ r. ⌜ r ≡ soundFrom (now (memory .entry)) 0 0 n ⌝ }
+{
+    let mut i = 0;
+    let mut k = 0;
+    let mut left = n;
+    while 0 < left {
+        if !is_sound_at(memory, i, k, table) {
+            return false;
+        }
+        k += orders(head_bytes(memory, i)) as usize;
+        i += 1;
+        left -= 1;
+    }
+    true
+}
+
+// Is the shipment of head i sound, its rows from the k-th on?
+fn is_sound_at(memory: &[u8], i: usize, k: usize, table: &[u8]) -> bool
+    requires { ⌜ (i < mostShipments) × (k ≤ mostRows) × (size ≤ length (now memory)) × (now table ≡ classTable) ⌝ }
+    ensures { λ r. ⌜ r ≡ soundAt (now (memory .entry)) i k ⌝ }
+{
+    let head = head_bytes(memory, i);
+    if !has_flags_in_form(head) {
+        return false;
+    }
+    let n = orders(head);
+    if MOST_ROWS < k + n as usize {
+        return false;
+    }
+    if !has_name_in_form(head) {
+        return false;
+    }
+    judge(head, n, tally_by(memory, k, n as usize, table))
+}
+
+// Is a shipment of n orders sound, but for its name?
+fn judge(head: &[u8], n: u64, tally: Tally) -> bool
+    requires { ⌜ IsHead (now head) × (n ≤ mostRows) × WithinSum (tally .amounts .0) ⌝ }
+    ensures { λ r. ⌜ r ≡ judged (now (head .entry)) n tally ⌝ }
+{
+    is_fee_in_range(head)
+        && (1 <= n
+            && (do_rows_fit(head, tally)
+                && (does_go_ahead_fit(head, tally) && do_moneys_fit(head, n, tally))))
+}
 
 // Is the fee in range?
 fn is_fee_in_range(head: &[u8]) -> bool
@@ -67,25 +116,13 @@ fn does_go_ahead_fit(head: &[u8], tally: Tally) -> bool
     true
 }
 
-// What is needed once the shipment is Paired, and nothing before.
-fn need_once_paired(head: &[u8], need: Sum) -> Sum
-    requires { ⌜ IsHead (now head) ⌝ }
-    ensures { λ r. ⌜ r ≡ sumOf (moneyOfSum need) (onlyIf (pairedIn (now (head .entry))) (groszeIn need)) ⌝ }
+// Do the sums of both moneys fit a shipment of n orders?
+fn do_moneys_fit(head: &[u8], n: u64, tally: Tally) -> bool
+    requires { ⌜ IsHead (now head) × (n ≤ mostRows) × WithinSum (tally .amounts .0) ⌝ }
+    ensures { λ r. ⌜ r ≡ moneysFit (now (head .entry)) n tally ⌝ }
 {
-    if is_paired(head) {
-        return need;
-    }
-    Sum::of(need.money(), 0)
-}
-
-// Is what was accepted at least what was returned and is needed, and nothing returned while Waiting?
-fn is_covered(accepted: Sum, returned: Sum, need: Sum, waiting: bool) -> bool
-    requires { ⌜ WithinSum (groszeIn returned) × WithinSum (groszeIn need) ⌝ }
-    ensures { λ r. ⌜ r ≡ isCovered (groszeIn accepted) (groszeIn returned) (groszeIn need) waiting ⌝ }
-{
-    let back = returned.grosze();
-    let needed = need.grosze();
-    back + needed <= accepted.grosze() && (!waiting || back == 0)
+    let amounts = tally.amounts;
+    does_money_fit(head, Sum::Amounts(amounts)) && does_money_fit(head, Sum::Fees(fees(head, n)))
 }
 
 // Do the sums of a money fit, for what is needed of it?
@@ -105,60 +142,23 @@ fn does_money_fit(head: &[u8], need: Sum) -> bool
     )
 }
 
-// Do the sums of both moneys fit a shipment of n orders?
-fn do_moneys_fit(head: &[u8], n: u64, tally: Tally) -> bool
-    requires { ⌜ IsHead (now head) × (n ≤ mostRows) × WithinSum (tally .amounts .0) ⌝ }
-    ensures { λ r. ⌜ r ≡ moneysFit (now (head .entry)) n tally ⌝ }
+// What is needed once the shipment is Paired, and nothing before.
+fn need_once_paired(head: &[u8], need: Sum) -> Sum
+    requires { ⌜ IsHead (now head) ⌝ }
+    ensures { λ r. ⌜ r ≡ sumOf (moneyOfSum need) (onlyIf (pairedIn (now (head .entry))) (groszeIn need)) ⌝ }
 {
-    let amounts = tally.amounts;
-    does_money_fit(head, Sum::Amounts(amounts)) && does_money_fit(head, Sum::Fees(fees(head, n)))
+    if is_paired(head) {
+        return need;
+    }
+    Sum::of(need.money(), 0)
 }
 
-// Is a shipment of n orders sound, but for its name?
-fn judge(head: &[u8], n: u64, tally: Tally) -> bool
-    requires { ⌜ IsHead (now head) × (n ≤ mostRows) × WithinSum (tally .amounts .0) ⌝ }
-    ensures { λ r. ⌜ r ≡ judged (now (head .entry)) n tally ⌝ }
+// Is what was accepted at least what was returned and is needed, and nothing returned while Waiting?
+fn is_covered(accepted: Sum, returned: Sum, need: Sum, waiting: bool) -> bool
+    requires { ⌜ WithinSum (groszeIn returned) × WithinSum (groszeIn need) ⌝ }
+    ensures { λ r. ⌜ r ≡ isCovered (groszeIn accepted) (groszeIn returned) (groszeIn need) waiting ⌝ }
 {
-    is_fee_in_range(head)
-        && (1 <= n
-            && (do_rows_fit(head, tally)
-                && (does_go_ahead_fit(head, tally) && do_moneys_fit(head, n, tally))))
-}
-
-// Is the shipment of head i sound, its rows from the k-th on?
-fn is_sound_at(memory: &[u8], i: usize, k: usize, table: &[u8]) -> bool
-    requires { ⌜ (i < mostShipments) × (k ≤ mostRows) × (size ≤ length (now memory)) × (now table ≡ classTable) ⌝ }
-    ensures { λ r. ⌜ r ≡ soundAt (now (memory .entry)) i k ⌝ }
-{
-    let head = head_bytes(memory, i);
-    if !has_flags_in_form(head) {
-        return false;
-    }
-    let n = orders(head);
-    if MOST_ROWS < k + n as usize {
-        return false;
-    }
-    if !has_name_in_form(head) {
-        return false;
-    }
-    judge(head, n, tally_by(memory, k, n as usize, table))
-}
-
-// Are n shipments sound, each by itself?
-pub fn are_sound(memory: &[u8], n: usize, table: &[u8]) -> bool
-    requires { ⌜ (n ≤ mostShipments) × (size ≤ length (now memory)) × (now table ≡ classTable) ⌝ }
-    ensures { λ r. ⌜ r ≡ soundFrom (now (memory .entry)) 0 0 n ⌝ }
-{
-    let mut i = 0;
-    let mut k = 0;
-    let mut left = n;
-    while 0 < left {
-        if !is_sound_at(memory, i, k, table) {
-            return false;
-        }
-        k += orders(head_bytes(memory, i)) as usize;
-        i += 1;
-        left -= 1;
-    }
-    true
+    let back = returned.grosze();
+    let needed = need.grosze();
+    back + needed <= accepted.grosze() && (!waiting || back == 0)
 }

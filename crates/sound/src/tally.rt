@@ -12,7 +12,7 @@ ghost use Rattle.memory.specs.Layout.{size, IsRow};
 ghost use Rattle.memory.specs.Rows.{rowOf};
 ghost use Rattle.memory.specs.Read.{rowsFrom};
 ghost use Rattle.memory.specs.Inner.Classes.{classTable};
-ghost use Rattle.sound.specs.Tally.{tallied, tallyOf, faultyIn};
+ghost use Rattle.sound.specs.Inner.Tally.{tallied, tallyOf, faultyIn};
 
 // The classes from here on are of states that only a Paired shipment may have.
 pub const ONLY_PAIRED: u8 = 2;
@@ -25,23 +25,6 @@ pub struct Tally {
     pub classes: u8,
     pub amounts: Amount,
     pub out: u64,
-}
-
-// The tally with one row more.
-fn with_row(tally: Tally, row: &[u8], table: &[u8]) -> Tally
-    requires { ⌜ IsRow (now row) × (now table ≡ classTable) × WithinSum (tally .amounts .0 + 2 ^ 32) × (tally .out < 2 ^ 60) ⌝ }
-    ensures { λ r. ⌜ (r ≡ tallied tally (rowOf (now (row .entry)))) × (r .amounts .0 < tally .amounts .0 + 2 ^ 32) ⌝ }
-{
-    let amount = amount(row);
-    let fits = Amount::is_order(amount.0);
-    let classes = tally.classes | class(row, table);
-    let amounts = Amount::sum(tally.amounts.0 + amount.0);
-    let out = tally.out + !fits as u64;
-    Tally {
-        classes,
-        amounts,
-        out,
-    }
 }
 
 // The tally of the n rows from the k-th on, by the table of classes.
@@ -63,6 +46,23 @@ pub fn tally_by(memory: &[u8], k: usize, n: usize, table: &[u8]) -> Tally
         left -= 1;
     }
     tally
+}
+
+// The tally with one row more.
+fn with_row(tally: Tally, row: &[u8], table: &[u8]) -> Tally
+    requires { ⌜ IsRow (now row) × (now table ≡ classTable) × WithinSum (tally .amounts .0 + 2 ^ 32) × (tally .out < 2 ^ 60) ⌝ }
+    ensures { λ r. ⌜ (r ≡ tallied tally (rowOf (now (row .entry)))) × (r .amounts .0 < tally .amounts .0 + 2 ^ 32) ⌝ }
+{
+    let amount = amount(row);
+    let fits = Amount::is_order(amount.0);
+    let classes = tally.classes | class(row, table);
+    let amounts = Amount::sum(tally.amounts.0 + amount.0);
+    let out = tally.out + !fits as u64;
+    Tally {
+        classes,
+        amounts,
+        out,
+    }
 }
 
 // Is any of the rows Faulty?

@@ -1,7 +1,7 @@
 -- `sound::is_sound` is the walk over shipments and identifiers.
 use Rattle.text.proofs.Branches.{branches}
 use Rattle.memory.specs.Read.{soundIn}
-use Rattle.sound.proofs.Walking.{as-walked}
+use Rattle.sound.proofs.WalkIsSound.{as-walked}
 use borrow.Author.Needs.{needs}
 use Rattle.sound.proofs.is_sound.Statement.{statement}
 use Rattle.sound.proofs.is_sound.Tie as tie

@@ -2,8 +2,8 @@
 use mathlib.Core.Path.{_≡_, refl, _∙_}
 use Prim.Native.Nat.{_+_, _≤_}
 use borrow.Author.Tests.{not-true, not-false}
-use Rattle.sound.specs.Walk.{apartFrom}
-use Rattle.sound.proofs.Turns.{apart-end, apart-no, apart-on}
+use Rattle.sound.specs.Inner.Walk.{apartFrom}
+use Rattle.sound.proofs.HeadByHead.{apart-end, apart-no, apart-on}
 use borrow.Author.Needs.{needs}
 use Rattle.sound.proofs.apart.are_apart.Statement.{statement}
 use Rattle.sound.proofs.apart.are_apart.Tie as tie

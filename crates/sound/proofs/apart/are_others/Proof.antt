@@ -1,8 +1,8 @@
 -- `sound::apart::are_others` asks head after head.
 use mathlib.Core.Path.{_≡_, _∙_}
 use Prim.Native.Nat.{_+_, _≤_}
-use Rattle.sound.specs.Walk.{othersFrom}
-use Rattle.sound.proofs.Turns.{others-end, others-no, others-on}
+use Rattle.sound.specs.Inner.Walk.{othersFrom}
+use Rattle.sound.proofs.HeadByHead.{others-end, others-no, others-on}
 use Rattle.model.specs.Shipment.{mostShipments}
 use Rattle.memory.specs.Layout.{headBytes}
 use borrow.Author.Needs.{needs}

@@ -2,8 +2,8 @@
 use mathlib.Core.Path.{_≡_, refl, _∙_}
 use Prim.Native.Nat.{_+_, _≤_}
 use Rattle.text.proofs.Branches.{told-no, told-yes}
-use Rattle.sound.specs.Walk.{soundFrom}
-use Rattle.sound.proofs.Turns.{sound-end, sound-no, sound-on}
+use Rattle.sound.specs.Inner.Walk.{soundFrom}
+use Rattle.sound.proofs.HeadByHead.{sound-end, sound-no, sound-on}
 use borrow.Author.Needs.{needs}
 use Rattle.sound.proofs.shipment.are_sound.Statement.{statement}
 use Rattle.sound.proofs.shipment.are_sound.Tie as tie

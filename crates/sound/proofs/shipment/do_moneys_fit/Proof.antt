@@ -3,7 +3,7 @@ use mathlib.Core.Path.{ap}
 use Rattle.text.proofs.Branches.{branches}
 use Rattle.money.specs.Money.{groszeIn, moneyOfSum}
 use Rattle.money.specs.declared.Fee.{Fee}
-use Rattle.sound.specs.Tally.{moneysFit}
+use Rattle.sound.specs.Inner.Tally.{moneysFit}
 use borrow.Author.Needs.{needs}
 use Rattle.sound.proofs.shipment.do_moneys_fit.Statement.{statement}
 use Rattle.sound.proofs.shipment.do_moneys_fit.Tie as tie

@@ -1,6 +1,6 @@
 -- `sound::shipment::do_rows_fit` asks for amounts out of range, then goes by the stage.
 use Rattle.text.proofs.Branches.{branches}
-use Rattle.sound.specs.Tally.{rowsFit}
+use Rattle.sound.specs.Inner.Tally.{rowsFit}
 use borrow.Author.Needs.{needs}
 use Rattle.sound.proofs.shipment.do_rows_fit.Statement.{statement}
 use Rattle.sound.proofs.shipment.do_rows_fit.Tie as tie

@@ -1,5 +1,5 @@
 -- `sound::shipment::does_go_ahead_fit` goes by the go-ahead, then the stage.
-use Rattle.sound.specs.Tally.{goAheadFits}
+use Rattle.sound.specs.Inner.Tally.{goAheadFits}
 use Rattle.text.proofs.Branches.{branches}
 use borrow.Author.Needs.{needs}
 use Rattle.sound.proofs.shipment.does_go_ahead_fit.Statement.{statement}

@@ -3,8 +3,8 @@ use mathlib.Core.Path.{sym, _∙_}
 use borrow.Author.Tests.{not-true, not-false}
 use Rattle.money.proofs.Sums.{grosze-is}
 use Rattle.money.specs.Money.{groszeIn}
-use Rattle.sound.specs.Tally.{pairedIn}
-use Rattle.sound.proofs.Judging.{money-wrong, money-right, sums-are, only-if-within}
+use Rattle.sound.specs.Inner.Tally.{pairedIn}
+use Rattle.sound.proofs.JudgedIsSound.{money-wrong, money-right, sums-are, only-if-within}
 use borrow.Author.Needs.{needs}
 use Rattle.sound.proofs.shipment.does_money_fit.Statement.{statement}
 use Rattle.sound.proofs.shipment.does_money_fit.Tie as tie

@@ -4,7 +4,7 @@ use mathlib.Core.Bool.{not}
 use Prim.Native.Nat.{_+_}
 use lib.Dec.{eqb, leb}
 use Rattle.text.proofs.Branches.{branches}
-use Rattle.sound.specs.Tally.{isCovered}
+use Rattle.sound.specs.Inner.Tally.{isCovered}
 use borrow.Author.Needs.{needs}
 use Rattle.sound.proofs.shipment.is_covered.Statement.{statement}
 use Rattle.sound.proofs.shipment.is_covered.Tie as tie

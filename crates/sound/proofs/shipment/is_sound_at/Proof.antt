@@ -1,6 +1,6 @@
 -- `sound::shipment::is_sound_at` asks the flags, the room for its rows and the name, and judges the rest.
 use Rattle.text.proofs.Branches.{told-no, told-yes}
-use Rattle.sound.proofs.Judging.{flags-wrong, no-room, name-wrong, sound-as-judged}
+use Rattle.sound.proofs.JudgedIsSound.{flags-wrong, no-room, name-wrong, sound-as-judged}
 use borrow.Author.Needs.{needs}
 use Rattle.sound.proofs.shipment.is_sound_at.Statement.{statement}
 use Rattle.sound.proofs.shipment.is_sound_at.Tie as tie

@@ -1,6 +1,6 @@
 -- `sound::shipment::judge` is `judged`: one test after the other.
 use Rattle.text.proofs.Branches.{branches}
-use Rattle.sound.specs.Tally.{judged}
+use Rattle.sound.specs.Inner.Tally.{judged}
 use borrow.Author.Needs.{needs}
 use Rattle.sound.proofs.shipment.judge.Statement.{statement}
 use Rattle.sound.proofs.shipment.judge.Tie as tie

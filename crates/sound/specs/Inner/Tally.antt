@@ -1,4 +1,4 @@
--- How code asks whether a shipment is sound: by its rows taken together. Only the contracts below `is_sound` need these.
+-- How code asks whether a shipment is sound: by its rows taken together.
 use mathlib.Core.Path.{_≡_}
 use mathlib.Core.Bool.{Bool, true, false, not, _&&_, _||_, cond}
 use mathlib.Core.List.{List, [], _∷_}

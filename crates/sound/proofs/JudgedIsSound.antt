@@ -1,4 +1,4 @@
--- A shipment's soundness, judged by its head and the tally of its rows.
+-- A shipment is sound exactly where it is judged so, by its head and the tally of its rows.
 -- Assumes nothing.
 use mathlib.Core.Path.{_≡_, refl, sym}
 use mathlib.Core.Bool.{Bool, true, false, not, cond, _&&_, _||_, false≢true}
@@ -16,8 +16,8 @@ use Rattle.memory.specs.Layout.{headBytes}
 use Rattle.memory.specs.Heads.{nameIn, stageIn, flagsInForm, orderCountIn, transfersIn, surplusIn, shipmentIn}
 use Rattle.memory.specs.Read.{rowsFrom}
 use Rattle.sound.specs.declared.tally.Tally.{Tally}
-use Rattle.sound.specs.Tally.{tallyOf, pairedIn, waitingIn, rowsFit, goAheadFits, isCovered, moneyFits, moneysFit, judged, JudgedIsSound}
-use Rattle.sound.specs.Walk.{soundAt}
+use Rattle.sound.specs.Inner.Tally.{tallyOf, pairedIn, waitingIn, rowsFit, goAheadFits, isCovered, moneyFits, moneysFit, judged, JudgedIsSound}
+use Rattle.sound.specs.Inner.Walk.{soundAt}
 use Rattle.sound.proofs.ReadLaws.{rows-many}
 use Rattle.sound.proofs.RowClasses.{rows-fit, any-faulty}
 

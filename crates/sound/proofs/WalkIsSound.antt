@@ -17,7 +17,7 @@ use Rattle.model.proofs.SoundParts.{halves}
 use Rattle.memory.specs.Layout.{size, headBytes}
 use Rattle.memory.specs.Heads.{nameIn, flagsInForm, shipmentIn}
 use Rattle.memory.specs.Read.{ordersAt, shipmentAt, shipmentsFrom, flagsFrom, shipmentsIn, bookIn, soundIn}
-use Rattle.sound.specs.Walk.{soundAt, soundFrom, othersFrom, apartFrom, WalkIsSound}
+use Rattle.sound.specs.Inner.Walk.{soundAt, soundFrom, othersFrom, apartFrom, WalkIsSound}
 use Rattle.sound.proofs.ReadLaws.{shipments-many, rows-next, sound-parts}
 
 unless : (t u : Bool) → cond t false u ≡ (not t && u)

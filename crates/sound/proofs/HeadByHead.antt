@@ -1,4 +1,4 @@
--- What each turn of a walk leaves to do is the whole.
+-- A walk over the heads: what each turn leaves to do is still the whole.
 -- Assumes nothing.
 use mathlib.Core.Path.{_≡_, refl}
 use mathlib.Core.Bool.{Bool, true, false}
@@ -13,7 +13,7 @@ use Rattle.model.proofs.SoundParts.{halves}
 use Rattle.memory.specs.Layout.{headBytes}
 use Rattle.memory.specs.Heads.{nameIn, orderCountIn}
 use Rattle.memory.specs.Read.{ordersAt}
-use Rattle.sound.specs.Walk.{soundAt, soundFrom, othersFrom, apartFrom}
+use Rattle.sound.specs.Inner.Walk.{soundAt, soundFrom, othersFrom, apartFrom}
 
 less-one : (n : ℕ) → suc n - 1 ≡ n
 less-one n = omega arith
