@@ -2,7 +2,7 @@ pub mod NeverUnread
 pub mod Listing
 pub mod SheetAnswered
 pub mod JournalLaws
-pub mod Playing
-pub mod Turns
-pub mod Endings
+pub mod CallOfEntry
+pub mod CallByCall
+pub mod ReplayEnds
 pub mod Examples

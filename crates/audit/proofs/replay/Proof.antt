@@ -1,6 +1,6 @@
 -- `audit::replay` asks of the journal, of the table and of the memory, in that order.
 use Rattle.text.proofs.Branches.{told-no, told-yes}
-use Rattle.audit.proofs.Endings.{empty-is-read, not-empty, counted, ends-not-encoded, ends-too-few, ends-not-empty, ends-replayed}
+use Rattle.audit.proofs.ReplayEnds.{empty-is-read, not-empty, counted, ends-not-encoded, ends-too-few, ends-not-empty, ends-replayed}
 use native.Mathlib.Omega.{arith}
 use borrow.Author.Needs.{needs}
 use Rattle.audit.proofs.replay.Statement.{statement}

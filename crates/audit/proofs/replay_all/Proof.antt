@@ -1,6 +1,6 @@
 -- `audit::replay_all`: the calls so far, and what is left of the journal, are the whole.
 use Rattle.audit.proofs.JournalLaws.{fields-there}
-use Rattle.audit.proofs.Turns.{SoFar, starts, entry-left, room-left, next-fits, turns, all-made}
+use Rattle.audit.proofs.CallByCall.{SoFar, starts, entry-left, room-left, next-fits, turns, all-made}
 use Prim.Native.Nat.{_-_}
 use native.Mathlib.Omega.{arith}
 use borrow.Author.Needs.{needs}

@@ -1,6 +1,6 @@
 -- `audit::play::play` makes the call that the first byte says.
 use Rattle.book.proofs.Telling.{plays-same}
-use Rattle.audit.proofs.Playing.{is-intake, is-transfer, is-act}
+use Rattle.audit.proofs.CallOfEntry.{is-intake, is-transfer, is-act}
 use Rattle.audit.proofs.JournalLaws.{fields-there}
 use native.Mathlib.Omega.{arith}
 use borrow.Author.Needs.{needs}

@@ -1,6 +1,6 @@
 -- `audit::play::play_act` does what the first byte says with the shipment of the identifier.
 use Rattle.book.proofs.Telling.{plays}
-use Rattle.audit.proofs.Playing.{call-known, on-an-order, on-go-ahead, on-pair, on-close, on-return}
+use Rattle.audit.proofs.CallOfEntry.{call-known, on-an-order, on-go-ahead, on-pair, on-close, on-return}
 use Rattle.audit.proofs.JournalLaws.{fields-there}
 use Rattle.epe.specs.Ident.{identOf}
 use Rattle.book.specs.Numbers.{routeOf, moneyOf}

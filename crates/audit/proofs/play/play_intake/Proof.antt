@@ -6,7 +6,7 @@ use Rattle.model.specs.Calls.{Intake}
 use Rattle.book.proofs.IntakeActs.{profile-refused}
 use Rattle.audit.specs.Journal.{profileIn}
 use Rattle.book.proofs.Telling.{plays}
-use Rattle.audit.proofs.Playing.{unfit}
+use Rattle.audit.proofs.CallOfEntry.{unfit}
 use Rattle.audit.proofs.JournalLaws.{fields-there}
 use borrow.Author.Needs.{needs}
 use Rattle.audit.proofs.play.play_intake.Statement.{statement}

@@ -1,6 +1,6 @@
 -- `audit::play::play_on_order` does what the first byte says with the order of the number.
 use Rattle.book.proofs.Telling.{plays}
-use Rattle.audit.proofs.Playing.{on-post, on-pay, on-undelivered, on-withdraw}
+use Rattle.audit.proofs.CallOfEntry.{on-post, on-pay, on-undelivered, on-withdraw}
 use Rattle.audit.proofs.JournalLaws.{fields-there}
 use native.Mathlib.Omega.{arith}
 use borrow.Author.Needs.{needs}

@@ -1,4 +1,4 @@
--- A journal replayed: what holds before the first call, after each, and after the last.
+-- A journal replayed call by call: what holds before the first, after each, and after the last.
 -- Assumes nothing.
 use mathlib.Core.Path.{_≡_, refl, sym, ap, _∙_}
 use mathlib.Core.Bool.{true}
