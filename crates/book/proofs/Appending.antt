@@ -12,7 +12,7 @@ use Rattle.memory.specs.Layout.{headBytes, rowBytes}
 use Rattle.memory.specs.Heads.{flagsInForm}
 use Rattle.memory.specs.Read.{ordersAt, shipmentAt, shipmentsFrom, flagsFrom}
 use Rattle.sound.proofs.ReadLaws.{rows-next}
-use Rattle.book.proofs.RowLaws.{rows-alike}
+use Rattle.acts.proofs.RowLaws.{rows-alike}
 
 -- one shipment more, at the end
 shipments-then : (m : List ℕ) (i k n : ℕ)

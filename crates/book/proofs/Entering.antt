@@ -19,9 +19,9 @@ use Rattle.memory.specs.Read.{rowsFrom, shipmentAt, shipmentsFrom, bookIn}
 use Rattle.memory.specs.Inner.Enter.{OrderEntered, HeadEntered}
 use Rattle.memory.proofs.Parts.{number-heads, number-rows}
 use Rattle.memory.proofs.Frames.{heads-kept, rows-kept}
-use Rattle.book.specs.Place.{RowsStored}
-use Rattle.book.specs.Entering.{keptRow, Fits, ShipmentEntered}
-use Rattle.book.proofs.Storing.{one-more-stored}
+use Rattle.acts.specs.Inner.Place.{RowsStored}
+use Rattle.acts.proofs.RowsInTurn.{one-more-stored}
+use Rattle.book.specs.Inner.Entering.{keptRow, Fits, ShipmentEntered}
 use Rattle.book.proofs.Appending.{appended, flags-alike}
 
 -- each order of a table in range

@@ -8,7 +8,7 @@ use native.Mathlib.Omega.{arith}
 use borrow.Author.Tests.{leb-true, leb-false, le-leb, lt-leb, le-ltb, lt-ltb}
 use lib.Dec.{leb, ltb}
 use lib.ListN.{length, length-replicate}
-use Rattle.text.proofs.Branches.{and-left, and-right, either-way}
+use Rattle.text.proofs.Branches.{either-way}
 use Rattle.epe.specs.Name.{nameOf, nameInForm}
 use Rattle.epe.specs.Profile.{profileFits}
 use Rattle.epe.specs.Opening.{openingQuestions, opening, openingOf}
@@ -37,8 +37,8 @@ use Rattle.memory.specs.Layout.{size}
 use Rattle.memory.specs.Read.{shipmentsFrom, shipmentsIn, bookIn, soundIn}
 use Rattle.sound.proofs.ReadLaws.{shipments-many, sound-parts}
 use Rattle.book.specs.Does.{Does}
-use Rattle.book.specs.Entering.{enteredIn, Fits, Opened, Counted, ShipmentEntered, DoesEnter}
-use Rattle.book.proofs.Calls.{does-no-book, does-step, stays}
+use Rattle.book.specs.Inner.Entering.{enteredIn, Fits, Opened, Counted, ShipmentEntered, DoesEnter}
+use Rattle.book.proofs.CallDoesStep.{does-no-book, does-step, stays}
 
 -- a fee of the profile
 pub fee-below : (profile : Profile) (kind : ℕ) → profileFits profile ≡ true → feeFor profile kind < 2 ^ 32

@@ -12,11 +12,11 @@ use Rattle.model.specs.Book.{isCalled, find}
 use Rattle.memory.specs.Layout.{headBytes}
 use Rattle.memory.specs.Heads.{stageIn, shipmentIn}
 use Rattle.memory.specs.Read.{ordersAt, shipmentAt, shipmentsFrom, shipmentsIn, bookIn, readBook}
-use Rattle.book.specs.declared.place.Place.the-variants.{Unsound, Unknown, At}
+use Rattle.acts.specs.declared.place.Place.the-variants.{Unsound, Unknown, At}
+use Rattle.acts.specs.Inner.Place.{calledIn, placeFrom, placeIn}
+use Rattle.acts.proofs.Finding.{Found, here, further}
+use Rattle.acts.proofs.PlaceInBook.{unsound-place, unknown-place, at-place}
 use Rattle.book.specs.NoReturn.{noReturn}
-use Rattle.book.specs.Place.{calledIn, placeFrom, placeIn}
-use Rattle.book.proofs.Finding.{Found, here, further}
-use Rattle.book.proofs.Calls.{unsound-place, unknown-place, at-place}
 use Rattle.memory.proofs.HeadFields.{paired-is}
 
 module _ (ident : Ident) (m : List ℕ) where

@@ -1,8 +1,7 @@
+-- In the order in which to read them.
 pub mod Does
-pub mod NoReturn
-pub mod Answers
 pub mod Reply
 pub mod Numbers
-pub mod Place
-pub mod Waits
-pub mod Entering
+pub mod NoReturn
+-- What a buyer need not read.
+pub mod Inner

@@ -1,8 +1,8 @@
 // An order file taken in: it is judged whole, then entered behind the last shipment.
-use crate::answer::Acceptance;
-use crate::place::Place;
-use crate::place::find_called;
 use crate::refusals;
+use acts::answer::Acceptance;
+use acts::place::Place;
+use acts::place::find_called;
 use contents::judge::Judged;
 use contents::judge::judge_records;
 use contents::kept::order_in;
@@ -39,25 +39,27 @@ ghost use Rattle.model.specs.Calls.{Intake};
 ghost use Rattle.model.specs.Book.{feeFor, isUnknown, rowsIn, enteredRow, newShipment, entered};
 ghost use Rattle.memory.specs.Layout.{size};
 ghost use Rattle.memory.specs.Read.{shipmentsFrom, shipmentsIn, soundIn};
-ghost use Rattle.book.specs.Answers.{acceptanceOf};
+ghost use Rattle.acts.specs.Answers.{acceptanceOf};
+ghost use Rattle.acts.specs.Inner.Place.{RowsStored};
 ghost use Rattle.book.specs.Does.{Does};
-ghost use Rattle.book.specs.Place.{RowsStored};
-ghost use Rattle.book.specs.Entering.{keptRow, Fits, ShipmentEntered, Opened, Counted, DoesEnter};
+ghost use Rattle.book.specs.Inner.Entering.{keptRow, Fits, ShipmentEntered, Opened, Counted, DoesEnter};
 
-// How many rows n shipments have.
-fn rows_of(memory: &[u8], n: usize) -> usize
-    requires { ⌜ (n ≤ mostShipments) × (size ≤ length (now memory)) ⌝ }
-    ensures { λ r. ⌜ r ≡ rowsIn (shipmentsFrom (now (memory .entry)) 0 0 n) ⌝ }
+// Takes in an order file into a sound book.
+pub fn take_file(memory: &mut [u8], profile: Profile, name: &[u8], file: &[u8]) -> Acceptance
+    requires { ⌜ (profileFits profile ≡ true) × (soundIn (now memory) ≡ true) ⌝ }
+    ensures { λ r. ⌜ Does (now (memory .entry)) (Intake profile (now (name .entry)) (now (file .entry))) (acceptanceOf r) (now (memory .exit)) ⌝ }
 {
-    let mut i = 0;
-    let mut k = 0;
-    let mut left = n;
-    while 0 < left {
-        k += orders(head_bytes(memory, i)) as usize;
-        i += 1;
-        left -= 1;
+    let opening = open(name, file);
+    let verdict = opening.verdict;
+    if let Verdict::Refused(number) = verdict {
+        return Acceptance::Refused(number);
     }
-    k
+    let parts = opening.name;
+    let i = shipments(memory);
+    if !is_unknown(memory, parts.ident, i) {
+        return Acceptance::Refused(refusals::KNOWN);
+    }
+    take_in(memory, i, profile, parts, file)
 }
 
 // Is an identifier of none of n shipments?
@@ -72,24 +74,46 @@ fn is_unknown(memory: &[u8], ident: Ident, n: usize) -> bool
     }
 }
 
-// Enters the first n orders that a table keeps, in the rows from the k-th on.
-fn enter_orders(memory: &mut [u8], k: usize, n: usize, kept: &[u64])
-    requires { ⌜ (k + n ≤ mostRows) × (size ≤ length (now memory)) × EachInRange (ordersIn (now kept) 0 n) ⌝ }
-    ensures { λ _. ⌜ RowsStored (keptRow k (now (kept .entry))) k n (now (memory .entry)) (now (memory .exit)) ⌝ }
+// Judges the contents of a file, and enters it behind the i shipments that there are.
+fn take_in(memory: &mut [u8], i: usize, profile: Profile, name: Name, file: &[u8]) -> Acceptance
+    requires { ⌜ (profileFits profile ≡ true) × (soundIn (now memory) ≡ true) × (i ≡ shipmentsIn (now memory)) × (nameInForm name ≡ true) ⌝ }
+    ensures { λ r. ⌜ DoesEnter (contentsQuestions profile (now (file .entry))) (entered profile name (orders (now (file .entry)))) (length (orders (now (file .entry)))) (faultyCount (orders (now (file .entry)))) (now (memory .entry)) (acceptanceOf r) (now (memory .exit)) ⌝ }
 {
-    for done in 0..n {
-        enter_order(memory, k + done, order_in(kept, done));
+    let stated = judge_stated(profile, file);
+    let verdict = stated.verdict;
+    if let Verdict::Refused(number) = verdict {
+        return Acceptance::Refused(number);
+    }
+    take_records(memory, i, profile, name, stated, file)
+}
+
+// Judges the records of a file whose header has passed, and enters it behind the i shipments that there are.
+fn take_records(
+    memory: &mut [u8],
+    i: usize,
+    profile: Profile,
+    name: Name,
+    stated: Stated,
+    file: &[u8],
+) -> Acceptance
+    requires { ⌜ (profileFits profile ≡ true) × (soundIn (now memory) ≡ true) × (i ≡ shipmentsIn (now memory)) × (nameInForm name ≡ true) × (stated ≡ statedOf profile (now file)) × (stated .verdict ≡ Passed) ⌝ }
+    ensures { λ r. ⌜ DoesEnter (contentsQuestions profile (now (file .entry))) (entered profile name (orders (now (file .entry)))) (length (orders (now (file .entry)))) (faultyCount (orders (now (file .entry)))) (now (memory .entry)) (acceptanceOf r) (now (memory .exit)) ⌝ }
+{
+    let fee = fee_of(profile, name.kind);
+    let mut kept = [0u64; MOST_ROWS];
+    match judge_records(profile.fields, stated.count, stated.sum, file, &mut kept) {
+        Judged::Accepted(n, faulty) => enter_behind(memory, i, name, fee, n, faulty, &kept),
+        Judged::Refused(number) => Acceptance::Refused(number),
     }
 }
 
-// Enters a shipment of the first n orders that a table keeps as the i-th, its rows from the k-th on.
-fn enter(memory: &mut [u8], i: usize, k: usize, name: Name, fee: Fee, n: u64, kept: &[u64])
-    requires { ⌜ Fits (now memory) i k name (fee .0) n (now kept) ⌝ }
-    ensures { λ _. ⌜ ShipmentEntered (newShipment name (fee .0) (map enteredRow (ordersIn (now (kept .entry)) 0 n))) (now (memory .entry)) (now (memory .exit)) ⌝ }
+// The fee of a kind.
+fn fee_of(profile: Profile, kind: u64) -> Fee
+    requires { ⌜ (profileFits profile ≡ true) × (kind ≤ 4) ⌝ }
+    ensures { λ r. ⌜ (r .0 ≡ feeFor profile kind) × (r .0 < 2 ^ 32) ⌝ }
 {
-    enter_orders(memory, k, n as usize, kept);
-    enter_head(memory, i, name, fee, n);
-    store_shipments(memory, i + 1);
+    let fees = profile.fees;
+    fees[kind as usize]
 }
 
 // Enters a shipment of the first n orders that a table keeps behind the i that there are, if there is room.
@@ -116,62 +140,38 @@ fn enter_behind(
     Acceptance::Accepted(n, faulty)
 }
 
-// The fee of a kind.
-fn fee_of(profile: Profile, kind: u64) -> Fee
-    requires { ⌜ (profileFits profile ≡ true) × (kind ≤ 4) ⌝ }
-    ensures { λ r. ⌜ (r .0 ≡ feeFor profile kind) × (r .0 < 2 ^ 32) ⌝ }
+// How many rows n shipments have.
+fn rows_of(memory: &[u8], n: usize) -> usize
+    requires { ⌜ (n ≤ mostShipments) × (size ≤ length (now memory)) ⌝ }
+    ensures { λ r. ⌜ r ≡ rowsIn (shipmentsFrom (now (memory .entry)) 0 0 n) ⌝ }
 {
-    let fees = profile.fees;
-    fees[kind as usize]
+    let mut i = 0;
+    let mut k = 0;
+    let mut left = n;
+    while 0 < left {
+        k += orders(head_bytes(memory, i)) as usize;
+        i += 1;
+        left -= 1;
+    }
+    k
 }
 
-// Judges the records of a file whose header has passed, and enters it behind the i shipments that there are.
-fn take_records(
-    memory: &mut [u8],
-    i: usize,
-    profile: Profile,
-    name: Name,
-    stated: Stated,
-    file: &[u8],
-) -> Acceptance
-    requires { ⌜ (profileFits profile ≡ true) × (soundIn (now memory) ≡ true) × (i ≡ shipmentsIn (now memory)) × (nameInForm name ≡ true) × (stated ≡ statedOf profile (now file)) × (stated .verdict ≡ Passed) ⌝ }
-    ensures { λ r. ⌜ DoesEnter (contentsQuestions profile (now (file .entry))) (entered profile name (orders (now (file .entry)))) (length (orders (now (file .entry)))) (faultyCount (orders (now (file .entry)))) (now (memory .entry)) (acceptanceOf r) (now (memory .exit)) ⌝ }
+// Enters a shipment of the first n orders that a table keeps as the i-th, its rows from the k-th on.
+fn enter(memory: &mut [u8], i: usize, k: usize, name: Name, fee: Fee, n: u64, kept: &[u64])
+    requires { ⌜ Fits (now memory) i k name (fee .0) n (now kept) ⌝ }
+    ensures { λ _. ⌜ ShipmentEntered (newShipment name (fee .0) (map enteredRow (ordersIn (now (kept .entry)) 0 n))) (now (memory .entry)) (now (memory .exit)) ⌝ }
 {
-    let fee = fee_of(profile, name.kind);
-    let mut kept = [0u64; MOST_ROWS];
-    match judge_records(profile.fields, stated.count, stated.sum, file, &mut kept) {
-        Judged::Accepted(n, faulty) => enter_behind(memory, i, name, fee, n, faulty, &kept),
-        Judged::Refused(number) => Acceptance::Refused(number),
-    }
+    enter_orders(memory, k, n as usize, kept);
+    enter_head(memory, i, name, fee, n);
+    store_shipments(memory, i + 1);
 }
 
-// Judges the contents of a file, and enters it behind the i shipments that there are.
-fn take_in(memory: &mut [u8], i: usize, profile: Profile, name: Name, file: &[u8]) -> Acceptance
-    requires { ⌜ (profileFits profile ≡ true) × (soundIn (now memory) ≡ true) × (i ≡ shipmentsIn (now memory)) × (nameInForm name ≡ true) ⌝ }
-    ensures { λ r. ⌜ DoesEnter (contentsQuestions profile (now (file .entry))) (entered profile name (orders (now (file .entry)))) (length (orders (now (file .entry)))) (faultyCount (orders (now (file .entry)))) (now (memory .entry)) (acceptanceOf r) (now (memory .exit)) ⌝ }
+// Enters the first n orders that a table keeps, in the rows from the k-th on.
+fn enter_orders(memory: &mut [u8], k: usize, n: usize, kept: &[u64])
+    requires { ⌜ (k + n ≤ mostRows) × (size ≤ length (now memory)) × EachInRange (ordersIn (now kept) 0 n) ⌝ }
+    ensures { λ _. ⌜ RowsStored (keptRow k (now (kept .entry))) k n (now (memory .entry)) (now (memory .exit)) ⌝ }
 {
-    let stated = judge_stated(profile, file);
-    let verdict = stated.verdict;
-    if let Verdict::Refused(number) = verdict {
-        return Acceptance::Refused(number);
+    for done in 0..n {
+        enter_order(memory, k + done, order_in(kept, done));
     }
-    take_records(memory, i, profile, name, stated, file)
-}
-
-// Takes in an order file into a sound book.
-pub fn take_file(memory: &mut [u8], profile: Profile, name: &[u8], file: &[u8]) -> Acceptance
-    requires { ⌜ (profileFits profile ≡ true) × (soundIn (now memory) ≡ true) ⌝ }
-    ensures { λ r. ⌜ Does (now (memory .entry)) (Intake profile (now (name .entry)) (now (file .entry))) (acceptanceOf r) (now (memory .exit)) ⌝ }
-{
-    let opening = open(name, file);
-    let verdict = opening.verdict;
-    if let Verdict::Refused(number) = verdict {
-        return Acceptance::Refused(number);
-    }
-    let parts = opening.name;
-    let i = shipments(memory);
-    if !is_unknown(memory, parts.ident, i) {
-        return Acceptance::Refused(refusals::KNOWN);
-    }
-    take_in(memory, i, profile, parts, file)
 }

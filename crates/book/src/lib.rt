@@ -1,34 +1,26 @@
 // The settlement book in lent memory: every call of document 01 but the sheet.
-pub mod answer;
 mod enter;
 pub mod numbers;
-mod order;
-mod place;
 pub mod refusals;
 pub mod reply;
-mod route;
-mod rows;
-mod shipment;
-mod surplus;
 
-use crate::answer::Acceptance;
-use crate::answer::Completion;
-use crate::answer::Pairing;
-use crate::answer::Payment;
-use crate::answer::Posting;
-use crate::answer::Returning;
 use crate::enter::take_file;
-use crate::order::Handling;
-use crate::order::handle_at;
-use crate::place::Place;
-use crate::place::place_called;
-use crate::place::place_named;
-use crate::route::return_at;
-use crate::shipment::close_at;
-use crate::shipment::go_ahead_at;
-use crate::shipment::pair_at;
-use crate::shipment::transfer_at;
-use crate::surplus::surplus_at;
+use acts::answer::Acceptance;
+use acts::answer::Completion;
+use acts::answer::Pairing;
+use acts::answer::Payment;
+use acts::answer::Posting;
+use acts::answer::Returning;
+use acts::order::Handling;
+use acts::order::handle_at;
+use acts::place::Place;
+use acts::place::place_called;
+use acts::place::place_named;
+use acts::route::return_by_at;
+use acts::shipment::close_at;
+use acts::shipment::go_ahead_at;
+use acts::shipment::pair_at;
+use acts::shipment::transfer_at;
 use epe::ident::Ident;
 use epe::name::Name;
 use epe::name::read_title;
@@ -48,13 +40,15 @@ use sound::is_sound;
 ghost use mathlib.Core.Path.{_≡_};
 ghost use mathlib.Core.Bool.{true};
 ghost use Rattle.money.specs.Money.{WithinSum, groszeIn, moneyOfSum};
-ghost use Rattle.model.specs.Calls.{Intake, GoAhead, Pair, Close, OnOrder, Return, Transfer, On, transferred, acted};
+ghost use Rattle.model.specs.Calls.{Intake, GoAhead, Pair, Close, OnOrder, Return, Transfer, On, transferred};
 ghost use Rattle.model.specs.declared.Deed.the-variants.{Post, Pay, MarkUndelivered, Withdraw};
-ghost use Rattle.book.specs.Answers.{completionOf, acceptanceOf, pairingOf, postingOf, paymentOf, returningOf, handlingOf};
-ghost use Rattle.memory.specs.Read.{soundIn, readBook, Sits};
+ghost use Rattle.acts.specs.Answers.{completionOf, acceptanceOf, pairingOf, postingOf, paymentOf, returningOf};
+ghost use Rattle.acts.specs.Inner.Handled.{handlingOf};
+ghost use Rattle.memory.specs.Read.{soundIn, readBook};
+ghost use Rattle.acts.specs.Inner.Place.{namedIn};
 ghost use Rattle.book.specs.Does.{Does, MakesEmpty};
 ghost use Rattle.book.specs.NoReturn.{noReturn};
-ghost use Rattle.book.specs.Place.{namedIn, ActAt, DoesSought};
+ghost use Rattle.book.specs.Inner.Sought.{DoesSought};
 
 // Makes an empty book in memory that is long enough, whatever it holds.
 pub fn make_empty(memory: &mut [u8]) -> Completion
@@ -80,18 +74,6 @@ pub fn intake(memory: &mut [u8], profile: Profile, name: &[u8], file: &[u8]) -> 
     take_file(memory, profile, name, file)
 }
 
-// A transfer to the shipment of a name, in a sound book.
-fn transfer_to(memory: &mut [u8], name: Name, sum: Sum) -> Completion
-    requires { ⌜ (soundIn (now memory) ≡ true) × WithinSum (groszeIn sum) ⌝ }
-    ensures { λ r. ⌜ DoesSought (namedIn name) (transferred (moneyOfSum sum) (groszeIn sum)) (now (memory .entry)) (completionOf r) (now (memory .exit)) ⌝ }
-{
-    match place_named(memory, name) {
-        Place::Unsound => Completion::Refused(refusals::UNSOUND),
-        Place::Unknown => Completion::Refused(refusals::UNKNOWN),
-        Place::At(i, k) => transfer_at(memory, i, k, sum),
-    }
-}
-
 // A transfer of K or O, for the shipment that its title names.
 pub fn transfer(memory: &mut [u8], title: &[u8], amount: u64) -> Completion
     ensures { λ r. ⌜ Does (now (memory .entry)) (Transfer (now (title .entry)) amount) (completionOf r) (now (memory .exit)) ⌝ }
@@ -110,6 +92,18 @@ pub fn transfer(memory: &mut [u8], title: &[u8], amount: u64) -> Completion
     };
     let name = read.name;
     transfer_to(memory, name, sum)
+}
+
+// A transfer to the shipment of a name, in a sound book.
+fn transfer_to(memory: &mut [u8], name: Name, sum: Sum) -> Completion
+    requires { ⌜ (soundIn (now memory) ≡ true) × WithinSum (groszeIn sum) ⌝ }
+    ensures { λ r. ⌜ DoesSought (namedIn name) (transferred (moneyOfSum sum) (groszeIn sum)) (now (memory .entry)) (completionOf r) (now (memory .exit)) ⌝ }
+{
+    match place_named(memory, name) {
+        Place::Unsound => Completion::Refused(refusals::UNSOUND),
+        Place::Unknown => Completion::Refused(refusals::UNKNOWN),
+        Place::At(i, k) => transfer_at(memory, i, k, sum),
+    }
 }
 
 // Go-ahead (OBS): a Waiting shipment with faults may be paired.
@@ -142,17 +136,6 @@ pub fn close(memory: &mut [u8], ident: Ident) -> Completion
         Place::Unsound => Completion::Refused(refusals::UNSOUND),
         Place::Unknown => Completion::Refused(refusals::UNKNOWN),
         Place::At(i, k) => close_at(memory, i, k),
-    }
-}
-
-// Does a deed with an order.
-fn handle(memory: &mut [u8], ident: Ident, deed: Deed, number: u64) -> Handling
-    ensures { λ r. ⌜ Does (now (memory .entry)) (On ident (OnOrder deed number)) (handlingOf deed r) (now (memory .exit)) ⌝ }
-{
-    match place_called(memory, ident) {
-        Place::Unsound => Handling::Refused(refusals::UNSOUND),
-        Place::Unknown => Handling::Refused(refusals::UNKNOWN),
-        Place::At(i, k) => handle_at(memory, i, k, deed, number),
     }
 }
 
@@ -196,16 +179,14 @@ pub fn withdraw(memory: &mut [u8], ident: Ident, number: u64) -> Completion
     }
 }
 
-// Returns by a route, from the shipment at a place.
-fn return_by_at(memory: &mut [u8], i: usize, k: usize, route: Route, money: Money) -> Returning
-    requires { ⌜ Sits (now memory) i k ⌝ }
-    ensures { λ r. ⌜ ActAt (now (memory .entry)) i k (acted (Return route money)) (returningOf money r) (now (memory .exit)) ⌝ }
+// Does a deed with an order.
+fn handle(memory: &mut [u8], ident: Ident, deed: Deed, number: u64) -> Handling
+    ensures { λ r. ⌜ Does (now (memory .entry)) (On ident (OnOrder deed number)) (handlingOf deed r) (now (memory .exit)) ⌝ }
 {
-    match route {
-        Route::Zwr => surplus_at(memory, i, k, money),
-        Route::Opr => return_at(memory, i, k, Route::Opr, money),
-        Route::Zpr => return_at(memory, i, k, Route::Zpr, money),
-        Route::Zzr => return_at(memory, i, k, Route::Zzr, money),
+    match place_called(memory, ident) {
+        Place::Unsound => Handling::Refused(refusals::UNSOUND),
+        Place::Unknown => Handling::Refused(refusals::UNKNOWN),
+        Place::At(i, k) => handle_at(memory, i, k, deed, number),
     }
 }
 
@@ -229,9 +210,9 @@ pub fn refuse_return(memory: &[u8], ident: Ident) -> u64
         Place::Unknown => refusals::UNKNOWN,
         Place::At(i, _) => {
             if is_paired(head_bytes(memory, i)) {
-                refusals::UNDELIVERED_FEE
+                acts::refusals::UNDELIVERED_FEE
             } else {
-                refusals::NOT_PAIRED
+                acts::refusals::NOT_PAIRED
             }
         }
     }

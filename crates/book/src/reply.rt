@@ -1,14 +1,14 @@
 // An answer in three numbers.
-use crate::answer::Acceptance;
-use crate::answer::Completion;
-use crate::answer::Pairing;
-use crate::answer::Payment;
-use crate::answer::Posting;
-use crate::answer::Returning;
+use acts::answer::Acceptance;
+use acts::answer::Completion;
+use acts::answer::Pairing;
+use acts::answer::Payment;
+use acts::answer::Posting;
+use acts::answer::Returning;
 use money::Money;
 ghost use mathlib.Core.Path.{_≡_};
 ghost use Rattle.money.specs.declared.Money.the-variants.{K, O};
-ghost use Rattle.book.specs.Answers.{completionOf, acceptanceOf, pairingOf, postingOf, paymentOf, returningOf};
+ghost use Rattle.acts.specs.Answers.{completionOf, acceptanceOf, pairingOf, postingOf, paymentOf, returningOf};
 ghost use Rattle.book.specs.Reply.{doneWith, shortBy, refusedWith, replyOf};
 
 // 0 done, 1 short or 2 refused, and what the answer says.
@@ -17,39 +17,6 @@ pub struct Reply {
     pub status: u64,
     pub first: u64,
     pub second: u64,
-}
-
-// Done, and what the answer says.
-pub fn done(first: u64, second: u64) -> Reply
-    ensures { λ r. ⌜ r ≡ doneWith first second ⌝ }
-{
-    Reply {
-        status: 0,
-        first,
-        second,
-    }
-}
-
-// Short by an amount and a fee.
-fn short(amount: u64, fee: u64) -> Reply
-    ensures { λ r. ⌜ r ≡ shortBy amount fee ⌝ }
-{
-    Reply {
-        status: 1,
-        first: amount,
-        second: fee,
-    }
-}
-
-// Refused, with the number of the question.
-pub fn refused(number: u64) -> Reply
-    ensures { λ r. ⌜ r ≡ refusedWith number ⌝ }
-{
-    Reply {
-        status: 2,
-        first: number,
-        second: 0,
-    }
 }
 
 // What a completion says, in three numbers.
@@ -103,6 +70,16 @@ pub fn tell_payment(payment: Payment) -> Reply
     }
 }
 
+// What a return of either money says.
+pub fn tell_returning(money: Money, returning: Returning) -> Reply
+    ensures { λ r. ⌜ r ≡ replyOf (returningOf money returning) ⌝ }
+{
+    match money {
+        Money::K => tell_amounts(returning),
+        Money::O => tell_fees(returning),
+    }
+}
+
 // What a return of amounts says.
 pub fn tell_amounts(returning: Returning) -> Reply
     ensures { λ r. ⌜ r ≡ replyOf (returningOf K returning) ⌝ }
@@ -125,12 +102,35 @@ pub fn tell_fees(returning: Returning) -> Reply
     }
 }
 
-// What a return of either money says.
-pub fn tell_returning(money: Money, returning: Returning) -> Reply
-    ensures { λ r. ⌜ r ≡ replyOf (returningOf money returning) ⌝ }
+// Done, and what the answer says.
+pub fn done(first: u64, second: u64) -> Reply
+    ensures { λ r. ⌜ r ≡ doneWith first second ⌝ }
 {
-    match money {
-        Money::K => tell_amounts(returning),
-        Money::O => tell_fees(returning),
+    Reply {
+        status: 0,
+        first,
+        second,
+    }
+}
+
+// Short by an amount and a fee.
+fn short(amount: u64, fee: u64) -> Reply
+    ensures { λ r. ⌜ r ≡ shortBy amount fee ⌝ }
+{
+    Reply {
+        status: 1,
+        first: amount,
+        second: fee,
+    }
+}
+
+// Refused, with the number of the question.
+pub fn refused(number: u64) -> Reply
+    ensures { λ r. ⌜ r ≡ refusedWith number ⌝ }
+{
+    Reply {
+        status: 2,
+        first: number,
+        second: 0,
     }
 }

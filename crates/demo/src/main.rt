@@ -1,11 +1,11 @@
 // Document 01's worked shipment ZS1, run through the calls of the book in lent memory: a line for each call, with what it answers.
 // The number before a call is its line in document 01's table (crates/model/specs/Zs1.antt); line 0 is what comes before it.
-use book::answer::Acceptance;
-use book::answer::Completion;
-use book::answer::Pairing;
-use book::answer::Payment;
-use book::answer::Posting;
-use book::answer::Returning;
+use acts::answer::Acceptance;
+use acts::answer::Completion;
+use acts::answer::Pairing;
+use acts::answer::Payment;
+use acts::answer::Posting;
+use acts::answer::Returning;
 use calendar::date::Date;
 use epe::ident::Ident;
 use epe::profile::Profile;

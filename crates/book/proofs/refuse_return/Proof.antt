@@ -1,7 +1,7 @@
 -- `book::refuse_return` asks where the shipment is found.
-use Rattle.book.proofs.Calls.{sits}
+use Rattle.acts.proofs.PlaceInBook.{sits}
 use Rattle.book.proofs.NoReturns.{refused-unsound, refused-unknown, refused-paired, refused-not-paired}
-use Rattle.book.specs.Place.{calledIn}
+use Rattle.acts.specs.Inner.Place.{calledIn}
 use mathlib.Core.Path.{sym, _∙_}
 use borrow.Author.Needs.{needs}
 use Rattle.book.proofs.refuse_return.Statement.{statement}

@@ -1,7 +1,8 @@
 -- `book::return_money` returns from the shipment where it is found.
-use Rattle.book.proofs.Seeking.{seeks-called}
-use Rattle.book.proofs.Calls.{sits, does-unsound, does-unknown, does-at}
-use Rattle.book.specs.Place.{calledIn}
+use Rattle.book.proofs.ShipmentOfCall.{seeks-called}
+use Rattle.acts.proofs.PlaceInBook.{sits}
+use Rattle.book.proofs.CallDoesStep.{does-unsound, does-unknown, does-at}
+use Rattle.acts.specs.Inner.Place.{calledIn}
 use Rattle.model.specs.Calls.{Return, acted}
 use mathlib.Core.Path.{sym, _∙_}
 use borrow.Author.Needs.{needs}

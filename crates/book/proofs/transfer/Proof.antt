@@ -1,7 +1,8 @@
 -- `book::transfer` asks 10, 11 and 12 before the shipment is looked for.
-use Rattle.book.proofs.Seeking.{title-refused, amount-refused, seeks-named}
-use Rattle.book.proofs.Calls.{does-no-book, does-refused}
-use Rattle.book.specs.Place.{namedIn, Seeks}
+use Rattle.book.proofs.ShipmentOfCall.{title-refused, amount-refused, seeks-named}
+use Rattle.book.proofs.CallDoesStep.{does-no-book, does-refused}
+use Rattle.acts.specs.Inner.Place.{namedIn}
+use Rattle.book.specs.Inner.Sought.{Seeks}
 use Rattle.model.specs.Calls.{Transfer, transferred}
 use Rattle.epe.specs.declared.name.Title.{Title}
 use Rattle.epe.specs.Questions.{isPassed}

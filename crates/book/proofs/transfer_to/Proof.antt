@@ -1,7 +1,8 @@
 -- `book::transfer_to` takes the transfer where the shipment of the name is found.
 use mathlib.Core.Path.{sym, _∙_}
-use Rattle.book.proofs.Calls.{sits, does-unsound, does-unknown, does-at}
-use Rattle.book.specs.Place.{namedIn}
+use Rattle.acts.proofs.PlaceInBook.{sits}
+use Rattle.book.proofs.CallDoesStep.{does-unsound, does-unknown, does-at}
+use Rattle.acts.specs.Inner.Place.{namedIn}
 use borrow.Author.Needs.{needs}
 use Rattle.book.proofs.transfer_to.Statement.{statement}
 use Rattle.book.proofs.transfer_to.Tie as tie

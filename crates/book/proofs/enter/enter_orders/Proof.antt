@@ -1,8 +1,8 @@
 -- `book::enter::enter_orders` enters order after order of the table.
 use Rattle.book.proofs.Entering.{kept-in-range, one-more-entered}
-use Rattle.book.proofs.Storing.{none-stored}
-use Rattle.book.specs.Entering.{keptRow}
-use Rattle.book.specs.Place.{RowsStored}
+use Rattle.acts.proofs.RowsInTurn.{none-stored}
+use Rattle.book.specs.Inner.Entering.{keptRow}
+use Rattle.acts.specs.Inner.Place.{RowsStored}
 use native.Mathlib.Omega.{arith}
 use Prim.Native.Nat.{_-_, _≤_}
 use mathlib.Core.Path.{_≡_}

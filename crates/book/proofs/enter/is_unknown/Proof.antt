@@ -1,5 +1,5 @@
 -- `book::enter::is_unknown` is where no place is found.
-use Rattle.book.proofs.Knowing.{unknown-by-place}
+use Rattle.acts.proofs.UnknownIdent.{unknown-by-place}
 use borrow.Author.Needs.{needs}
 use Rattle.book.proofs.enter.is_unknown.Statement.{statement}
 use Rattle.book.proofs.enter.is_unknown.Tie as tie

@@ -4,7 +4,7 @@ use Rattle.model.specs.Book.{rowsIn}
 use native.Mathlib.Omega.{arith}
 use Prim.Native.Nat.{_+_, _*_, _≤_}
 use mathlib.Core.Path.{_≡_, _∙_}
-use Rattle.book.proofs.Knowing.{rows-on, rows-end}
+use Rattle.book.proofs.RowsTaken.{rows-on, rows-end}
 use borrow.Author.Needs.{needs}
 use Rattle.book.proofs.enter.rows_of.Statement.{statement}
 use Rattle.book.proofs.enter.rows_of.Tie as tie

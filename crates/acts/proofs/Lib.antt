@@ -1,0 +1,15 @@
+pub mod RowLaws
+pub mod RowWalks
+pub mod RowsInTurn
+pub mod Finding
+pub mod PlaceInBook
+pub mod UnknownIdent
+pub mod PlaceOfName
+pub mod ShipmentChanged
+pub mod HeadActs
+pub mod ShipmentActs
+pub mod Needs
+pub mod PairingActs
+pub mod Orders
+pub mod Returns
+pub mod SurplusActs

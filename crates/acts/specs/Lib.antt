@@ -1,0 +1,3 @@
+pub mod Answers
+-- What a buyer need not read.
+pub mod Inner
