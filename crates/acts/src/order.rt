@@ -61,6 +61,18 @@ fn does_fit(deed: Deed, state: State) -> bool
     }
 }
 
+// The state after the deed.
+fn state_after(deed: Deed) -> State
+    ensures { λ r. ⌜ r ≡ becomes deed ⌝ }
+{
+    match deed {
+        Deed::Post => State::Posted,
+        Deed::Pay => State::Paid,
+        Deed::MarkUndelivered => State::Undelivered(true),
+        Deed::Withdraw => State::Withdrawn(true, true),
+    }
+}
+
 // Is the order Open?
 fn is_open(state: State) -> bool
     ensures { λ r. ⌜ r ≡ isOpen state ⌝ }
@@ -86,17 +98,5 @@ fn is_posted(state: State) -> bool
         State::Faulty(_, _, _) => false,
         State::Undelivered(_) => false,
         State::Withdrawn(_, _) => false,
-    }
-}
-
-// The state after the deed.
-fn state_after(deed: Deed) -> State
-    ensures { λ r. ⌜ r ≡ becomes deed ⌝ }
-{
-    match deed {
-        Deed::Post => State::Posted,
-        Deed::Pay => State::Paid,
-        Deed::MarkUndelivered => State::Undelivered(true),
-        Deed::Withdraw => State::Withdrawn(true, true),
     }
 }

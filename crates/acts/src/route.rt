@@ -93,16 +93,6 @@ fn is_zpr_with_o(route: Route, money: Money) -> bool
     }
 }
 
-// Is it the money of fees?
-fn is_o(money: Money) -> bool
-    ensures { λ r. ⌜ r ≡ byMoney money false true ⌝ }
-{
-    match money {
-        Money::K => false,
-        Money::O => true,
-    }
-}
-
 // Is every order worth nothing in a money? In K none is, in O all are where the fee is 0.
 fn are_worth_nothing(money: Money, fee: Fee) -> bool
     ensures { λ r. ⌜ r ≡ byMoney money false (eqb (fee .0) 0) ⌝ }
@@ -131,6 +121,16 @@ fn clear(memory: &mut [u8], i: usize, k: usize, route: Route, money: Money) -> W
     let sum = Sum::of(money, taken.worth / wait);
     let count = taken.count / wait;
     Waits { sum, count }
+}
+
+// Is it the money of fees?
+fn is_o(money: Money) -> bool
+    ensures { λ r. ⌜ r ≡ byMoney money false true ⌝ }
+{
+    match money {
+        Money::K => false,
+        Money::O => true,
+    }
 }
 
 // Takes out of row k the wait that a table of waits of a money says of it. What it took is counted, and as often the order's worth is added.

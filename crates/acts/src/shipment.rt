@@ -91,6 +91,18 @@ pub fn pair_at(memory: &mut [u8], i: usize, k: usize) -> Pairing
     Pairing::Paired
 }
 
+// Closes the shipment at a place.
+pub fn close_at(memory: &mut [u8], i: usize, k: usize) -> Completion
+    requires { ⌜ Sits (now memory) i k ⌝ }
+    ensures { λ r. ⌜ ActAt (now (memory .entry)) i k closed (completionOf r) (now (memory .exit)) ⌝ }
+{
+    if !is_waiting(head_bytes(memory, i)) {
+        return Completion::Refused(refusals::NOT_WAITING);
+    }
+    store_stage(memory, i, Stage::Closed);
+    Completion::Done
+}
+
 // Has the shipment of this head and the n rows from the k-th on a go-ahead, or no faults?
 fn may_pair(head: &[u8], memory: &[u8], k: usize, n: usize) -> bool
     requires { ⌜ IsHead (now head) × (k + n ≤ mostRows) × (size ≤ length (now memory)) × (rowsSound Waiting (rowsFrom (now memory) k n) ≡ true) ⌝ }
@@ -104,16 +116,4 @@ fn is_short(amount: Amount, fee: Fee) -> bool
     ensures { λ r. ⌜ r ≡ (ltb 0 (amount .0) || ltb 0 (fee .0)) ⌝ }
 {
     0 < amount.0 || 0 < fee.0
-}
-
-// Closes the shipment at a place.
-pub fn close_at(memory: &mut [u8], i: usize, k: usize) -> Completion
-    requires { ⌜ Sits (now memory) i k ⌝ }
-    ensures { λ r. ⌜ ActAt (now (memory .entry)) i k closed (completionOf r) (now (memory .exit)) ⌝ }
-{
-    if !is_waiting(head_bytes(memory, i)) {
-        return Completion::Refused(refusals::NOT_WAITING);
-    }
-    store_stage(memory, i, Stage::Closed);
-    Completion::Done
 }

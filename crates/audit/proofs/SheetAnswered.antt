@@ -24,8 +24,8 @@ use Rattle.model.proofs.SoundParts.{halves}
 use Rattle.model.proofs.Known.{found, passed, unknown-none}
 use Rattle.model.proofs.StaysSound.{always-sound}
 use Rattle.model.proofs.Conserved.{conserves, accepted-as-answered}
-use Rattle.sheet.specs.Sheet.{Sheet, rowFor, noSheet, sheetOf}
-use Rattle.sheet.specs.Inner.Parts.{Division, divisionOf}
+use Rattle.sheet.specs.Sheet.{Division, Sheet, rowFor, noSheet, sheetOf}
+use Rattle.sheet.specs.Inner.Parts.{divisionOf}
 use Rattle.sheet.specs.declared.Sheeting.the-variants.{Filled}
 use Rattle.sheet.specs.declared.SheetRow.{SheetRow}
 use Rattle.sheet.specs.declared.Totals.{Totals}

@@ -58,7 +58,7 @@ bookInBytes m = bookOf (readBook m)
 abbrev pub leavesBytes : Money → Ident → ℕ → List ℕ → Made → Bool
 leavesBytes money ident j before made =
     isFor ident (made .call)
-    && moved (made .call) (made .answer) .takes money j (orderByIndex j (find ident (bookInBytes before))) (orderByIndex j (find ident (bookInBytes (made .memory))))
+    && moved (made .call) (made .answer) .takesFrom money j (orderByIndex j (find ident (bookInBytes before))) (orderByIndex j (find ident (bookInBytes (made .memory))))
 
 abbrev pub timesLeftBytes : Money → Ident → ℕ → List ℕ → List Made → ℕ
 timesLeftBytes money ident j start [] = 0

@@ -12,8 +12,7 @@ use Rattle.model.specs.Shipment.{sumOver}
 use Rattle.model.specs.Book.{Book}
 use Rattle.model.specs.Demand.{Event, acceptedFor, leftFor, heldIn, freeIn}
 use Rattle.memory.specs.Read.{readBook}
-use Rattle.sheet.specs.Sheet.{Sheet, sheetOf}
-use Rattle.sheet.specs.Inner.Parts.{Division}
+use Rattle.sheet.specs.Sheet.{Division, Sheet, sheetOf}
 use Rattle.sheet.specs.declared.Sheeting.the-variants.{Filled}
 use Rattle.sheet.specs.declared.SheetRow.{SheetRow}
 use Rattle.sheet.specs.declared.Totals.{Totals}

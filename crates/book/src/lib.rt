@@ -94,18 +94,6 @@ pub fn transfer(memory: &mut [u8], title: &[u8], amount: u64) -> Completion
     transfer_to(memory, name, sum)
 }
 
-// A transfer to the shipment of a name, in a sound book.
-fn transfer_to(memory: &mut [u8], name: Name, sum: Sum) -> Completion
-    requires { ⌜ (soundIn (now memory) ≡ true) × WithinSum (groszeIn sum) ⌝ }
-    ensures { λ r. ⌜ DoesSought (namedIn name) (transferred (moneyOfSum sum) (groszeIn sum)) (now (memory .entry)) (completionOf r) (now (memory .exit)) ⌝ }
-{
-    match place_named(memory, name) {
-        Place::Unsound => Completion::Refused(refusals::UNSOUND),
-        Place::Unknown => Completion::Refused(refusals::UNKNOWN),
-        Place::At(i, k) => transfer_at(memory, i, k, sum),
-    }
-}
-
 // Go-ahead (OBS): a Waiting shipment with faults may be paired.
 pub fn go_ahead(memory: &mut [u8], ident: Ident) -> Completion
     ensures { λ r. ⌜ Does (now (memory .entry)) (On ident GoAhead) (completionOf r) (now (memory .exit)) ⌝ }
@@ -179,17 +167,6 @@ pub fn withdraw(memory: &mut [u8], ident: Ident, number: u64) -> Completion
     }
 }
 
-// Does a deed with an order.
-fn handle(memory: &mut [u8], ident: Ident, deed: Deed, number: u64) -> Handling
-    ensures { λ r. ⌜ Does (now (memory .entry)) (On ident (OnOrder deed number)) (handlingOf deed r) (now (memory .exit)) ⌝ }
-{
-    match place_called(memory, ident) {
-        Place::Unsound => Handling::Refused(refusals::UNSOUND),
-        Place::Unknown => Handling::Refused(refusals::UNKNOWN),
-        Place::At(i, k) => handle_at(memory, i, k, deed, number),
-    }
-}
-
 // Return: what is free (ZWR), or waits in Faulty (OPR), Undelivered (ZPR) or Withdrawn (ZZR) orders, goes back.
 pub fn return_money(memory: &mut [u8], ident: Ident, route: Route, money: Money) -> Returning
     ensures { λ r. ⌜ Does (now (memory .entry)) (On ident (Return route money)) (returningOf money r) (now (memory .exit)) ⌝ }
@@ -215,5 +192,28 @@ pub fn refuse_return(memory: &[u8], ident: Ident) -> u64
                 acts::refusals::NOT_PAIRED
             }
         }
+    }
+}
+
+// A transfer to the shipment of a name, in a sound book.
+fn transfer_to(memory: &mut [u8], name: Name, sum: Sum) -> Completion
+    requires { ⌜ (soundIn (now memory) ≡ true) × WithinSum (groszeIn sum) ⌝ }
+    ensures { λ r. ⌜ DoesSought (namedIn name) (transferred (moneyOfSum sum) (groszeIn sum)) (now (memory .entry)) (completionOf r) (now (memory .exit)) ⌝ }
+{
+    match place_named(memory, name) {
+        Place::Unsound => Completion::Refused(refusals::UNSOUND),
+        Place::Unknown => Completion::Refused(refusals::UNKNOWN),
+        Place::At(i, k) => transfer_at(memory, i, k, sum),
+    }
+}
+
+// Does a deed with an order.
+fn handle(memory: &mut [u8], ident: Ident, deed: Deed, number: u64) -> Handling
+    ensures { λ r. ⌜ Does (now (memory .entry)) (On ident (OnOrder deed number)) (handlingOf deed r) (now (memory .exit)) ⌝ }
+{
+    match place_called(memory, ident) {
+        Place::Unsound => Handling::Refused(refusals::UNSOUND),
+        Place::Unknown => Handling::Refused(refusals::UNKNOWN),
+        Place::At(i, k) => handle_at(memory, i, k, deed, number),
     }
 }

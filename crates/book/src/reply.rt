@@ -80,28 +80,6 @@ pub fn tell_returning(money: Money, returning: Returning) -> Reply
     }
 }
 
-// What a return of amounts says.
-pub fn tell_amounts(returning: Returning) -> Reply
-    ensures { λ r. ⌜ r ≡ replyOf (returningOf K returning) ⌝ }
-{
-    match returning {
-        Returning::Amounts(amount, count) => done(amount.0, count),
-        Returning::Fees(_, _) => done(0, 0),
-        Returning::Refused(number) => refused(number),
-    }
-}
-
-// What a return of fees says.
-pub fn tell_fees(returning: Returning) -> Reply
-    ensures { λ r. ⌜ r ≡ replyOf (returningOf O returning) ⌝ }
-{
-    match returning {
-        Returning::Amounts(_, _) => done(0, 0),
-        Returning::Fees(fee, count) => done(fee.0, count),
-        Returning::Refused(number) => refused(number),
-    }
-}
-
 // Done, and what the answer says.
 pub fn done(first: u64, second: u64) -> Reply
     ensures { λ r. ⌜ r ≡ doneWith first second ⌝ }
@@ -110,6 +88,17 @@ pub fn done(first: u64, second: u64) -> Reply
         status: 0,
         first,
         second,
+    }
+}
+
+// Refused, with the number of the question.
+pub fn refused(number: u64) -> Reply
+    ensures { λ r. ⌜ r ≡ refusedWith number ⌝ }
+{
+    Reply {
+        status: 2,
+        first: number,
+        second: 0,
     }
 }
 
@@ -124,13 +113,24 @@ fn short(amount: u64, fee: u64) -> Reply
     }
 }
 
-// Refused, with the number of the question.
-pub fn refused(number: u64) -> Reply
-    ensures { λ r. ⌜ r ≡ refusedWith number ⌝ }
+// What a return of amounts says.
+fn tell_amounts(returning: Returning) -> Reply
+    ensures { λ r. ⌜ r ≡ replyOf (returningOf K returning) ⌝ }
 {
-    Reply {
-        status: 2,
-        first: number,
-        second: 0,
+    match returning {
+        Returning::Amounts(amount, count) => done(amount.0, count),
+        Returning::Fees(_, _) => done(0, 0),
+        Returning::Refused(number) => refused(number),
+    }
+}
+
+// What a return of fees says.
+fn tell_fees(returning: Returning) -> Reply
+    ensures { λ r. ⌜ r ≡ replyOf (returningOf O returning) ⌝ }
+{
+    match returning {
+        Returning::Amounts(_, _) => done(0, 0),
+        Returning::Fees(fee, count) => done(fee.0, count),
+        Returning::Refused(number) => refused(number),
     }
 }

@@ -63,7 +63,7 @@ module _ (ident : Ident) (act : Act) where
   found-entire : (money : Money) (found : Option Shipment)
       → moved (On ident act) (answered (acted act) found) .goesOut money
       ≡ below (ordersOf found)
-      (λ j. onlyIf (moved (On ident act) (answered (acted act) found) .takes money j (orderByIndex j found) (orderByIndex j (after (acted act) found)))
+      (λ j. onlyIf (moved (On ident act) (answered (acted act) found) .takesFrom money j (orderByIndex j found) (orderByIndex j (after (acted act) found)))
       (worthOfOrder money j found))
       + moved (On ident act) (answered (acted act) found) .surplus money
   found-entire money none = refl
@@ -97,7 +97,7 @@ module _ (ident : Ident) (route : Route) (money : Money) where
 
   found-counted : (found : Option Shipment)
       → (n : ℕ) → moved call (answered does found) .count ≡ some n
-      → n ≡ below (ordersOf found) (λ j. onlyIf (moved call (answered does found) .takes money j (orderByIndex j found) (orderByIndex j (after does found))) 1)
+      → n ≡ below (ordersOf found) (λ j. onlyIf (moved call (answered does found) .takesFrom money j (orderByIndex j found) (orderByIndex j (after does found))) 1)
   found-counted none = λ n said. absurd (none-counted said)
   found-counted (some s) = acted-empties ident route money s .counted
 

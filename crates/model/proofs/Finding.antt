@@ -94,4 +94,4 @@ nothing-leaves money ident j book call of-none back-none =
     let before = orderByIndex j (find ident book) in
     let later = orderByIndex j (find ident (step book call .book)) in
     let answer = step book call .answer in
-    second-no (isFor ident call) (moved call answer .takes money j before later) (none-leaves money j call of-none back-none answer before later)
+    second-no (isFor ident call) (moved call answer .takesFrom money j before later) (none-leaves money j call of-none back-none answer before later)

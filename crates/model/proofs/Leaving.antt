@@ -156,7 +156,7 @@ module _ (route : Route) where
 -- What an act leaves of a shipment, and its answer, as far as its orders' moneys go.
 module _ (ident : Ident) (act : Act) (s : Shipment) where
   abbrev pub leavesAt : Money → ℕ → Outcome → Bool
-  leavesAt money j o = moved (On ident act) (o .answer) .takes money j (orderByIndex j (some s)) (orderByIndex j (some (o .shipment)))
+  leavesAt money j o = moved (On ident act) (o .answer) .takesFrom money j (orderByIndex j (some s)) (orderByIndex j (some (o .shipment)))
 
   -- the whole worth of each order whose money leaves
   abbrev pub leftWith : Money → Outcome → ℕ
@@ -210,7 +210,7 @@ deed-gone Withdraw O state is = rw (open-is state is)
 
 module _ (ident : Ident) (number : ℕ) (s : Shipment) (row : Row) where
   deed-leaves : (deed : Deed) (money : Money) (j : ℕ) (before after : Row)
-      → moved (On ident (OnOrder deed number)) (says deed s row) .takes money j before after ≡ (eqb number (j + 1) && takesOut deed money)
+      → moved (On ident (OnOrder deed number)) (says deed s row) .takesFrom money j before after ≡ (eqb number (j + 1) && takesOut deed money)
   deed-leaves Post K j before after = sym (and-false (eqb number (j + 1)))
   deed-leaves Post O j before after = sym (and-true (eqb number (j + 1)))
   deed-leaves Pay K j before after = sym (and-true (eqb number (j + 1)))
@@ -430,11 +430,11 @@ transferred-keeps title amount money n s =
 
 -- no order's money leaves by a call that is neither of an order nor a return
 pub none-leaves : (money : Money) (j : ℕ) (call : Call) → orderNamed call ≡ 0 → ((total orders : ℕ) → whenReturned call total orders ≡ nothing)
-    → (answer : Answer) (before after : Row) → moved call answer .takes money j before after ≡ false
+    → (answer : Answer) (before after : Row) → moved call answer .takesFrom money j before after ≡ false
 none-leaves money j call of-none back-none (Refused n) before after = refl
 none-leaves money j call of-none back-none Done before after = done-takes-none call
   where
-    done-takes-none : (call : Call) → moved call Done .takes money j before after ≡ false
+    done-takes-none : (call : Call) → moved call Done .takesFrom money j before after ≡ false
     done-takes-none (Intake profile name file) = refl
     done-takes-none (Transfer title amount) = refl
     done-takes-none (On ident act) = refl
@@ -446,4 +446,4 @@ none-leaves O j call of-none back-none (FeeEarned fee) before after = ne-eqb (or
 none-leaves K j call of-none back-none (AmountPaid amount) before after = ne-eqb (orderNamed call) (j + 1) (λ is. omega (arith, of-none))
 none-leaves O j call of-none back-none (AmountPaid amount) before after = refl
 none-leaves money j call of-none back-none (Returned total count) before after =
-    ap (λ (m : Moved). m .takes money j before after) (back-none total count)
+    ap (λ (m : Moved). m .takesFrom money j before after) (back-none total count)

@@ -56,7 +56,7 @@ module _ (money : Money) (ident : Ident) (j : ℕ) where
 
   found-once : (act : Act) (found : Option Shipment)
       → ofShipment (goneAt money j) found
-      + onlyIf (moved (On ident act) (answered (acted act) found) .takes money j (orderByIndex j found) (orderByIndex j (after (acted act) found))) 1
+      + onlyIf (moved (On ident act) (answered (acted act) found) .takesFrom money j (orderByIndex j found) (orderByIndex j (after (acted act) found))) 1
       ≤ ofShipment (goneAt money j) (after (acted act) found)
   found-once act none = omega arith
   found-once act (some s) = acted-leaves ident act s .once money j

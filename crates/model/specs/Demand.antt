@@ -81,7 +81,7 @@ orderByIndex j (some s) = getD (s .rows) j noOrder
 abbrev pub leaves : Money → Ident → ℕ → Book → Call → Bool
 leaves money ident j book call =
     isFor ident call
-    && moved call (step book call .answer) .takes money j (orderByIndex j (find ident book)) (orderByIndex j (find ident (step book call .book)))
+    && moved call (step book call .answer) .takesFrom money j (orderByIndex j (find ident book)) (orderByIndex j (find ident (step book call .book)))
 
 -- How often it does in a list.
 abbrev pub timesLeft : Money → Ident → ℕ → Book → List Call → ℕ

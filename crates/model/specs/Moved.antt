@@ -23,7 +23,7 @@ pub record Moved : Type 0 where
   pub comesIn : Money → ℕ
   pub goesOut : Money → ℕ
   pub surplus : Money → ℕ
-  pub takes : Money → ℕ → Row → Row → Bool
+  pub takesFrom : Money → ℕ → Row → Row → Bool
   pub count : Option ℕ
 
 abbrev noMoney : Money → ℕ
@@ -33,11 +33,11 @@ abbrev noOrders : Money → ℕ → Row → Row → Bool
 noOrders money j before after = false
 
 abbrev pub nothing : Moved
-nothing = record { comesIn = noMoney; goesOut = noMoney; surplus = noMoney; takes = noOrders; count = none }
+nothing = record { comesIn = noMoney; goesOut = noMoney; surplus = noMoney; takesFrom = noOrders; count = none }
 
 -- ".. demand 3 counts .. the amounts of the transfer calls answered as done as transfers accepted."
 abbrev pub moneyIn : Money → ℕ → Moved
-moneyIn other n = record { comesIn = λ money. onlyIf (isMoney money other) n; goesOut = noMoney; surplus = noMoney; takes = noOrders; count = none }
+moneyIn other n = record { comesIn = λ money. onlyIf (isMoney money other) n; goesOut = noMoney; surplus = noMoney; takesFrom = noOrders; count = none }
 
 -- "An order's K leaves by an accepted pay of it, .. its O by an accepted post of it, ..": order n of the shipment, counted from 1.
 abbrev pub feeEarned : ℕ → ℕ → Moved
@@ -45,7 +45,7 @@ feeEarned n fee = record {
   comesIn = noMoney;
   goesOut = λ money. byMoney money 0 fee;
   surplus = noMoney;
-  takes = λ money j before after. byMoney money false (eqb n (j + 1));
+  takesFrom = λ money j before after. byMoney money false (eqb n (j + 1));
   count = none;
 }
 
@@ -54,7 +54,7 @@ amountPaid n amount = record {
   comesIn = noMoney;
   goesOut = λ money. byMoney money amount 0;
   surplus = noMoney;
-  takes = λ money j before after. byMoney money (eqb n (j + 1)) false;
+  takesFrom = λ money j before after. byMoney money (eqb n (j + 1)) false;
   count = none;
 }
 
@@ -73,7 +73,7 @@ sentBack route other total orders = record {
   comesIn = noMoney;
   goesOut = λ money. onlyIf (isMoney money other) total;
   surplus = λ money. surplusOf route (onlyIf (isMoney money other) total);
-  takes = λ money j before after. isMoney money other && waitEnds money before after;
+  takesFrom = λ money j before after. isMoney money other && waitEnds money before after;
   count = some orders;
 }
 

@@ -56,6 +56,13 @@ worthWhere test money s = sumOver (λ (row : Row). onlyIf (test (row .state)) (w
 unfoldable pub left : Money → Shipment → ℕ
 left money s = worthWhere (isOut money) money s + onlyIf (isPaired (s .stage)) (worthWhere (waitsNoMore money) money s) + returned money s
 
+-- What was accepted of a money is divided: what is held, what is free, and the rest has left.
+pub record Division : Type 0 where
+  pub accepted : ℕ
+  pub held : ℕ
+  pub free : ℕ
+  pub left : ℕ
+
 -- "The sheet fills a lent table, one row per shipment: identifier; accepted, held, free, left, for K and for O."
 abbrev pub amountsOf : Shipment → Amounts
 amountsOf s = record { accepted = amount (accepted K s); held = amount (held K s); free = amount (free K s); left = amount (left K s) }

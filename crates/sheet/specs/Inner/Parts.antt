@@ -11,7 +11,7 @@ use Rattle.model.specs.declared.Row.{Row}
 use Rattle.sheet.specs.declared.Amounts.{Amounts}
 use Rattle.sheet.specs.declared.Fees.{Fees}
 use Rattle.sheet.specs.declared.row.Parts.{Parts}
-use Rattle.sheet.specs.Sheet.{left}
+use Rattle.sheet.specs.Sheet.{left, Division}
 
 abbrev pub amountOfRow : Row → ℕ
 amountOfRow row = row .amount .0
@@ -53,13 +53,7 @@ pub record SmallParts (parts : Parts) : Type 0 where
   pub held : WithinSum (parts .held .0 + 2 ^ 32)
   pub holders : parts .holders < 2 ^ 60
 
--- What was accepted of a money is divided: what is held, what is free, and the rest has left.
-pub record Division : Type 0 where
-  pub accepted : ℕ
-  pub held : ℕ
-  pub free : ℕ
-  pub left : ℕ
-
+-- How code divides what was accepted of a money.
 abbrev pub divided : ℕ → ℕ → ℕ → ℕ → Division
 divided accepted returned need held = record {
   accepted = accepted;
