@@ -145,19 +145,19 @@ static void put_number(uint64_t number) {
     for (int i = 0; i < 8; i++) journal[journal_length++] = (uint8_t)(number >> (8 * i));
 }
 
-/* Puts an entry behind the journal: a call with its numbers and two texts, of which most calls take the first. */
-static void put_entry(uint8_t call, const uint64_t *numbers, uint8_t n, const char *first, const char *second,
-                      size_t second_length) {
+/* Puts an entry behind the journal: a call with its numbers, a text and, of an intake, the file. */
+static void put_entry(uint8_t call, const uint64_t *numbers, uint8_t n, const char *text) {
+    const size_t behind = call == 0 ? file_length : 0;
     journal[journal_length++] = call;
     journal[journal_length++] = n;
-    journal[journal_length++] = 2;
+    journal[journal_length++] = call == 0 ? 2 : 1;
     for (int i = 0; i < n; i++) put_number(numbers[i]);
-    put_number(strlen(first));
-    put_number(second_length);
-    memcpy(journal + journal_length, first, strlen(first));
-    journal_length += strlen(first);
-    memcpy(journal + journal_length, second, second_length);
-    journal_length += second_length;
+    put_number(strlen(text));
+    if (call == 0) put_number(behind);
+    memcpy(journal + journal_length, text, strlen(text));
+    journal_length += strlen(text);
+    memcpy(journal + journal_length, file, behind);
+    journal_length += behind;
 }
 
 /* Writes a journal of the intake of a full book, a transfer, a go-ahead and a pairing. */
@@ -166,10 +166,10 @@ static void write_journal(void) {
     write_file("ZS1", ORDERS);
     journal_length = 0;
     put_number(CALLS);
-    put_entry(0, profile, 7, name, file, file_length);
-    put_entry(1, sum, 1, NAME "-K", "", 0);
-    put_entry(2, NULL, 0, "ZS1", "", 0);
-    put_entry(3, NULL, 0, "ZS1", "", 0);
+    put_entry(0, profile, 7, name);
+    put_entry(1, sum, 1, NAME "-K");
+    put_entry(2, NULL, 0, "ZS1");
+    put_entry(3, NULL, 0, "ZS1");
 }
 
 /* A book of one shipment, of as many orders as there is room for, until it is paired. */
