@@ -14,7 +14,6 @@ use Rattle.calendar.specs.Calendar.{real}
 use Rattle.money.specs.declared.Money.{Money}
 use Rattle.epe.specs.Ident.{identOf}
 use Rattle.epe.specs.Profile.{feesFit, profileFits}
-use Rattle.epe.specs.declared.ident.Ident.{Ident}
 use Rattle.epe.specs.declared.profile.Profile.{Profile}
 use Rattle.model.specs.Calls.{GoAhead, Pair, Close, OnOrder, Return, Intake, Transfer, On}
 use Rattle.model.specs.declared.Deed.the-variants.{Post, Pay, MarkUndelivered, Withdraw}
@@ -59,40 +58,40 @@ module _ (entry : List ℕ) where
   unfolding callIn
   is-act more = rw (ne-eqb (callByte entry) 0 (omega arith), ne-eqb (callByte entry) 1 (omega arith))
 
-  module _ {ident : Ident} (ident-is : ident ≡ identOf (entryText entry 0)) where
-    pub on-go-ahead : callByte entry ≡ 2 → On ident GoAhead ≡ On (identOf (entryText entry 0)) (actIn entry)
+  module _ {id : List ℕ} (id-is : id ≡ entryText entry 0) where
+    pub on-go-ahead : callByte entry ≡ 2 → On (identOf id) GoAhead ≡ On (identOf (entryText entry 0)) (actIn entry)
     unfolding actIn
-    on-go-ahead first = rw (ident-is, first)
+    on-go-ahead first = rw (id-is, first)
 
-    pub on-pair : callByte entry ≡ 3 → On ident Pair ≡ On (identOf (entryText entry 0)) (actIn entry)
+    pub on-pair : callByte entry ≡ 3 → On (identOf id) Pair ≡ On (identOf (entryText entry 0)) (actIn entry)
     unfolding actIn
-    on-pair first = rw (ident-is, first)
+    on-pair first = rw (id-is, first)
 
-    pub on-close : callByte entry ≡ 4 → On ident Close ≡ On (identOf (entryText entry 0)) (actIn entry)
+    pub on-close : callByte entry ≡ 4 → On (identOf id) Close ≡ On (identOf (entryText entry 0)) (actIn entry)
     unfolding actIn
-    on-close first = rw (ident-is, first)
+    on-close first = rw (id-is, first)
 
     pub on-return : {route : Route} {money : Money} → route ≡ routeOf (entryNumber entry 0) → money ≡ moneyOf (entryNumber entry 1) → callByte entry ≡ 9
-        → On ident (Return route money) ≡ On (identOf (entryText entry 0)) (actIn entry)
+        → On (identOf id) (Return route money) ≡ On (identOf (entryText entry 0)) (actIn entry)
     unfolding actIn
-    on-return route-is money-is first = rw (ident-is, route-is, money-is, first)
+    on-return route-is money-is first = rw (id-is, route-is, money-is, first)
 
     module _ {number : ℕ} (number-is : number ≡ entryNumber entry 0) where
-      pub on-post : callByte entry ≡ 5 → On ident (OnOrder Post number) ≡ On (identOf (entryText entry 0)) (actIn entry)
+      pub on-post : callByte entry ≡ 5 → On (identOf id) (OnOrder Post number) ≡ On (identOf (entryText entry 0)) (actIn entry)
       unfolding actIn
-      on-post first = rw (ident-is, number-is, first)
+      on-post first = rw (id-is, number-is, first)
 
-      pub on-pay : callByte entry ≡ 6 → On ident (OnOrder Pay number) ≡ On (identOf (entryText entry 0)) (actIn entry)
+      pub on-pay : callByte entry ≡ 6 → On (identOf id) (OnOrder Pay number) ≡ On (identOf (entryText entry 0)) (actIn entry)
       unfolding actIn
-      on-pay first = rw (ident-is, number-is, first)
+      on-pay first = rw (id-is, number-is, first)
 
-      pub on-undelivered : callByte entry ≡ 7 → On ident (OnOrder MarkUndelivered number) ≡ On (identOf (entryText entry 0)) (actIn entry)
+      pub on-undelivered : callByte entry ≡ 7 → On (identOf id) (OnOrder MarkUndelivered number) ≡ On (identOf (entryText entry 0)) (actIn entry)
       unfolding actIn
-      on-undelivered first = rw (ident-is, number-is, first)
+      on-undelivered first = rw (id-is, number-is, first)
 
       pub on-withdraw : 5 ≤ callByte entry → callByte entry ≤ 8 → (callByte entry ≡ 5 → ⊥) → (callByte entry ≡ 6 → ⊥) → (callByte entry ≡ 7 → ⊥)
-          → On ident (OnOrder Withdraw number) ≡ On (identOf (entryText entry 0)) (actIn entry)
+          → On (identOf id) (OnOrder Withdraw number) ≡ On (identOf (entryText entry 0)) (actIn entry)
       unfolding actIn
       on-withdraw above below not-post not-pay not-undelivered =
           let first : callByte entry ≡ 8 = omega arith in
-          rw (ident-is, number-is, first)
+          rw (id-is, number-is, first)

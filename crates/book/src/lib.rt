@@ -3,6 +3,7 @@ mod enter;
 pub mod numbers;
 pub mod refusals;
 pub mod reply;
+pub mod told;
 
 use crate::enter::take_file;
 use acts::answer::Acceptance;

@@ -6,12 +6,7 @@ use book::numbers::route_of;
 use book::reply::Reply;
 use book::reply::done;
 use book::reply::refused;
-use book::reply::tell_acceptance;
 use book::reply::tell_completion;
-use book::reply::tell_pairing;
-use book::reply::tell_payment;
-use book::reply::tell_posting;
-use book::reply::tell_returning;
 use epe::ident::ident_of;
 use epe::profile::Profile;
 use memory::SIZE;
@@ -52,7 +47,7 @@ pub extern "C" fn buntingraft_intake(
 ) -> Reply
     ensures { λ r. ⌜ Plays (now (book .entry)) (Intake profile (now (name .entry)) (now (file .entry))) r (now (book .exit)) ⌝ }
 {
-    tell_acceptance(book::intake(book, profile, name, file))
+    book::told::intake(book, profile, name, file)
 }
 
 // Takes a transfer.
@@ -60,7 +55,7 @@ pub extern "C" fn buntingraft_intake(
 pub extern "C" fn buntingraft_transfer(book: &mut [u8], title: &[u8], amount: u64) -> Reply
     ensures { λ r. ⌜ Plays (now (book .entry)) (Transfer (now (title .entry)) amount) r (now (book .exit)) ⌝ }
 {
-    tell_completion(book::transfer(book, title, amount))
+    book::told::transfer(book, title, amount)
 }
 
 // Takes a go-ahead.
@@ -68,7 +63,7 @@ pub extern "C" fn buntingraft_transfer(book: &mut [u8], title: &[u8], amount: u6
 pub extern "C" fn buntingraft_go_ahead(book: &mut [u8], id: &[u8]) -> Reply
     ensures { λ r. ⌜ Plays (now (book .entry)) (On (identOf (now (id .entry))) GoAhead) r (now (book .exit)) ⌝ }
 {
-    tell_completion(book::go_ahead(book, ident_of(id)))
+    book::told::go_ahead(book, id)
 }
 
 // Pairs a shipment.
@@ -76,7 +71,7 @@ pub extern "C" fn buntingraft_go_ahead(book: &mut [u8], id: &[u8]) -> Reply
 pub extern "C" fn buntingraft_pair(book: &mut [u8], id: &[u8]) -> Reply
     ensures { λ r. ⌜ Plays (now (book .entry)) (On (identOf (now (id .entry))) Pair) r (now (book .exit)) ⌝ }
 {
-    tell_pairing(book::pair(book, ident_of(id)))
+    book::told::pair(book, id)
 }
 
 // Closes a shipment.
@@ -84,7 +79,7 @@ pub extern "C" fn buntingraft_pair(book: &mut [u8], id: &[u8]) -> Reply
 pub extern "C" fn buntingraft_close(book: &mut [u8], id: &[u8]) -> Reply
     ensures { λ r. ⌜ Plays (now (book .entry)) (On (identOf (now (id .entry))) Close) r (now (book .exit)) ⌝ }
 {
-    tell_completion(book::close(book, ident_of(id)))
+    book::told::close(book, id)
 }
 
 // Posts an order.
@@ -92,7 +87,7 @@ pub extern "C" fn buntingraft_close(book: &mut [u8], id: &[u8]) -> Reply
 pub extern "C" fn buntingraft_post(book: &mut [u8], id: &[u8], order: u64) -> Reply
     ensures { λ r. ⌜ Plays (now (book .entry)) (On (identOf (now (id .entry))) (OnOrder Post order)) r (now (book .exit)) ⌝ }
 {
-    tell_posting(book::post(book, ident_of(id), order))
+    book::told::post(book, id, order)
 }
 
 // Pays an order.
@@ -100,7 +95,7 @@ pub extern "C" fn buntingraft_post(book: &mut [u8], id: &[u8], order: u64) -> Re
 pub extern "C" fn buntingraft_pay(book: &mut [u8], id: &[u8], order: u64) -> Reply
     ensures { λ r. ⌜ Plays (now (book .entry)) (On (identOf (now (id .entry))) (OnOrder Pay order)) r (now (book .exit)) ⌝ }
 {
-    tell_payment(book::pay(book, ident_of(id), order))
+    book::told::pay(book, id, order)
 }
 
 // Marks an order undelivered.
@@ -108,7 +103,7 @@ pub extern "C" fn buntingraft_pay(book: &mut [u8], id: &[u8], order: u64) -> Rep
 pub extern "C" fn buntingraft_mark_undelivered(book: &mut [u8], id: &[u8], order: u64) -> Reply
     ensures { λ r. ⌜ Plays (now (book .entry)) (On (identOf (now (id .entry))) (OnOrder MarkUndelivered order)) r (now (book .exit)) ⌝ }
 {
-    tell_completion(book::mark_undelivered(book, ident_of(id), order))
+    book::told::mark_undelivered(book, id, order)
 }
 
 // Withdraws an order.
@@ -116,7 +111,7 @@ pub extern "C" fn buntingraft_mark_undelivered(book: &mut [u8], id: &[u8], order
 pub extern "C" fn buntingraft_withdraw(book: &mut [u8], id: &[u8], order: u64) -> Reply
     ensures { λ r. ⌜ Plays (now (book .entry)) (On (identOf (now (id .entry))) (OnOrder Withdraw order)) r (now (book .exit)) ⌝ }
 {
-    tell_completion(book::withdraw(book, ident_of(id), order))
+    book::told::withdraw(book, id, order)
 }
 
 // Returns money by a route.
@@ -124,15 +119,10 @@ pub extern "C" fn buntingraft_withdraw(book: &mut [u8], id: &[u8], order: u64) -
 pub extern "C" fn buntingraft_return(book: &mut [u8], id: &[u8], route: u64, money: u64) -> Reply
     ensures { λ r. ⌜ Returns (now (book .entry)) (identOf (now (id .entry))) route money r (now (book .exit)) ⌝ }
 {
-    let ident = ident_of(id);
     if !are_known(route, money) {
-        return refused(book::refuse_return(book, ident));
+        return refused(book::refuse_return(book, ident_of(id)));
     }
-    let money = money_of(money);
-    tell_returning(
-        money,
-        book::return_money(book, ident, route_of(route), money),
-    )
+    book::told::return_money(book, id, route_of(route), money_of(money))
 }
 
 // What a sheet says, in three numbers.

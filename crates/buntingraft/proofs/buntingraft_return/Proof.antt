@@ -5,11 +5,11 @@ use borrow.Author.Needs.{needs}
 use Rattle.buntingraft.proofs.buntingraft_return.Statement.{statement}
 use Rattle.buntingraft.proofs.buntingraft_return.Tie as tie
 
-ident-of-requires : tie.Need-ident-of-requires
-ident-of-requires c κs = search needs
-
 are-known-requires : tie.Need-are-known-requires
 are-known-requires c κs = search needs
+
+ident-of-requires : tie.Need-ident-of-requires
+ident-of-requires c κs = search needs
 
 refuse-return-requires : tie.Need-refuse-return-requires
 refuse-return-requires c κs = search needs
@@ -23,49 +23,44 @@ same-length c = search needs
 returns : tie.Need-returns
 returns c =
     let refused = c .before in
-    let other = refused .before .before in
-    let asked = other .before in
-    not-returned (asked .before .ident-of .ensures) (asked .are-known .ensures) (not-true _ (other .if1 .taken)) (refused .refuse-return .ensures)
+    let ident = refused .before in
+    let other = ident .before .before in
+    not-returned (other .before .are-known .ensures) (not-true _ (other .if1 .taken)) (ident .ident-of .ensures) (refused .refuse-return .ensures)
     (c .refused .ensures)
-
-money-of-requires : tie.Need-money-of-requires
-money-of-requires c κs = search needs
 
 route-of-requires : tie.Need-route-of-requires
 route-of-requires c κs = search needs
 
+money-of-requires : tie.Need-money-of-requires
+money-of-requires c κs = search needs
+
 return-money-requires : tie.Need-return-money-requires
 return-money-requires c κs = search needs
-
-tell-returning-requires : tie.Need-tell-returning-requires
-tell-returning-requires c κs = search needs
 
 same-length-2 : tie.Need-same-length-2
 same-length-2 c = search needs
 
 returns-2 : tie.Need-returns-2
 returns-2 c =
-    let made = c .before .before .before in
-    let route = made .before in
-    let money = route .before .before in
-    let known = money .before in
-    let asked = known .before in
-    returned (asked .before .ident-of .ensures) (asked .are-known .ensures) (not-false _ (known .if1 .left)) (route .route-of .ensures)
-    (money .money-of .ensures) (made .return-money .ensures) (c .tell-returning .ensures)
+    let made = c .before .before in
+    let money = made .before in
+    let route = money .before in
+    let known = route .before .before in
+    returned (known .before .are-known .ensures) (not-false _ (known .if1 .left)) (route .route-of .ensures) (money .money-of .ensures)
+    (made .return-money .ensures)
 
 pub buntingraft-return-spec : {M : Type 1} → statement M
 buntingraft-return-spec =
     tie.close
     (tie.spec
-    ident-of-requires
     are-known-requires
+    ident-of-requires
     refuse-return-requires
     refused-requires
     same-length
     returns
-    money-of-requires
     route-of-requires
+    money-of-requires
     return-money-requires
-    tell-returning-requires
     same-length-2
     returns-2)

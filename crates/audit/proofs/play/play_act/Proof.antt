@@ -1,8 +1,7 @@
 -- `audit::play::play_act` does what the first byte says with the shipment of the identifier.
-use Rattle.book.proofs.Telling.{plays}
+use Rattle.book.proofs.Telling.{plays-same}
 use Rattle.audit.proofs.CallOfEntry.{call-known, on-an-order, on-go-ahead, on-pair, on-close, on-return}
 use Rattle.audit.proofs.JournalLaws.{fields-there}
-use Rattle.epe.specs.Ident.{identOf}
 use Rattle.book.specs.Numbers.{routeOf, moneyOf}
 use mathlib.Core.Path.{ap, _∙_}
 use native.Mathlib.Omega.{arith}
@@ -13,38 +12,26 @@ use Rattle.audit.proofs.play.play_act.Tie as tie
 entry-text-requires : tie.Need-entry-text-requires
 entry-text-requires c κs = search needs
 
-ident-of-requires : tie.Need-ident-of-requires
-ident-of-requires c κs = search needs
-
 shared-slice-read-match : tie.Need-shared-slice-read-match
-shared-slice-read-match c = let there = fields-there _ (c .before .before .before .before .before .pre .0) in omega arith
+shared-slice-read-match c = let there = fields-there _ (c .before .before .before .before .pre .0) in omega arith
 
 go-ahead-requires : tie.Need-go-ahead-requires
 go-ahead-requires c κs = search needs
 
-tell-completion-requires : tie.Need-tell-completion-requires
-tell-completion-requires c κs = search needs
-
 pair-requires : tie.Need-pair-requires
 pair-requires c κs = search needs
-
-tell-pairing-requires : tie.Need-tell-pairing-requires
-tell-pairing-requires c κs = search needs
 
 close-requires : tie.Need-close-requires
 close-requires c κs = search needs
 
-tell-completion-requires-2 : tie.Need-tell-completion-requires-2
-tell-completion-requires-2 c κs = search needs
-
 entry-number-requires : tie.Need-entry-number-requires
-entry-number-requires c κs = fields-there _ (c .before .before .before .before .before .before .pre .0)
+entry-number-requires c κs = fields-there _ (c .before .before .before .before .before .pre .0)
 
 route-of-requires : tie.Need-route-of-requires
 route-of-requires c κs = search needs
 
 entry-number-requires-2 : tie.Need-entry-number-requires-2
-entry-number-requires-2 c κs = fields-there _ (c .before .before .before .before .before .before .before .before .pre .0)
+entry-number-requires-2 c κs = fields-there _ (c .before .before .before .before .before .before .before .pre .0)
 
 money-of-requires : tie.Need-money-of-requires
 money-of-requires c κs = search needs
@@ -52,73 +39,61 @@ money-of-requires c κs = search needs
 return-money-requires : tie.Need-return-money-requires
 return-money-requires c κs = search needs
 
-tell-returning-requires : tie.Need-tell-returning-requires
-tell-returning-requires c κs = search needs
-
 play-on-order-requires : tie.Need-play-on-order-requires
 play-on-order-requires c κs =
     let chosen = c .before in
-    let ident = chosen .before .before in
-    let text = ident .before in
+    let text = chosen .before .before in
     let pre = text .before .before .before .pre in
     let others = chosen .match .rest in
     let order = on-an-order _ (pre .1) (call-known _ (pre .0)) (others .0 .0 .0 .1) (others .0 .0 .1) (others .0 .1) (others .1) in
-    (pre .0, ident .ident-of .ensures ∙ ap identOf (text .entry-text .ensures), order .0, order .1)
+    (pre .0, text .entry-text .ensures, order .0, order .1)
 
 same-length : tie.Need-same-length
 same-length c = search needs
 
 returns : tie.Need-returns
 returns c =
-    let made = c .before .before .before in
+    let made = c .before .before in
     let chosen = made .before .before in
-    let ident = chosen .before .before in
-    let text = ident .before in
+    let text = chosen .before .before in
     let entry = text .before .before .before .args .entry .now in
-    plays (on-go-ahead entry (ident .ident-of .ensures ∙ ap identOf (text .entry-text .ensures)) (chosen .match .keys1))
-    (made .go-ahead .ensures) (c .tell-completion .ensures)
+    plays-same (on-go-ahead entry (text .entry-text .ensures) (chosen .match .keys1)) (made .go-ahead .ensures)
 
 same-length-2 : tie.Need-same-length-2
 same-length-2 c = search needs
 
 returns-2 : tie.Need-returns-2
 returns-2 c =
-    let made = c .before .before .before in
+    let made = c .before .before in
     let chosen = made .before .before in
-    let ident = chosen .before .before in
-    let text = ident .before in
+    let text = chosen .before .before in
     let entry = text .before .before .before .args .entry .now in
-    plays (on-pair entry (ident .ident-of .ensures ∙ ap identOf (text .entry-text .ensures)) (chosen .match .keys2))
-    (made .pair .ensures) (c .tell-pairing .ensures)
+    plays-same (on-pair entry (text .entry-text .ensures) (chosen .match .keys2)) (made .pair .ensures)
 
 same-length-3 : tie.Need-same-length-3
 same-length-3 c = search needs
 
 returns-3 : tie.Need-returns-3
 returns-3 c =
-    let made = c .before .before .before in
+    let made = c .before .before in
     let chosen = made .before .before in
-    let ident = chosen .before .before in
-    let text = ident .before in
+    let text = chosen .before .before in
     let entry = text .before .before .before .args .entry .now in
-    plays (on-close entry (ident .ident-of .ensures ∙ ap identOf (text .entry-text .ensures)) (chosen .match .keys3))
-    (made .close .ensures) (c .tell-completion2 .ensures)
+    plays-same (on-close entry (text .entry-text .ensures) (chosen .match .keys3)) (made .close .ensures)
 
 same-length-4 : tie.Need-same-length-4
 same-length-4 c = search needs
 
 returns-4 : tie.Need-returns-4
 returns-4 c =
-    let made = c .before .before .before in
+    let made = c .before .before in
     let money = made .before .before in
     let route = money .before .before in
     let chosen = route .before .before in
-    let ident = chosen .before .before in
-    let text = ident .before in
+    let text = chosen .before .before in
     let entry = text .before .before .before .args .entry .now in
-    plays (on-return entry (ident .ident-of .ensures ∙ ap identOf (text .entry-text .ensures)) (route .route-of .ensures ∙ ap routeOf (route .before .entry-number .ensures))
-    (money .money-of .ensures ∙ ap moneyOf (money .before .entry-number2 .ensures)) (chosen .match .keys4))
-    (made .return-money .ensures) (c .tell-returning .ensures)
+    plays-same (on-return entry (text .entry-text .ensures) (route .route-of .ensures ∙ ap routeOf (route .before .entry-number .ensures))
+    (money .money-of .ensures ∙ ap moneyOf (money .before .entry-number2 .ensures)) (chosen .match .keys4)) (made .return-money .ensures)
 
 same-length-5 : tie.Need-same-length-5
 same-length-5 c = search needs
@@ -131,20 +106,15 @@ play-act-spec =
     tie.close
     (tie.spec
     entry-text-requires
-    ident-of-requires
     shared-slice-read-match
     go-ahead-requires
-    tell-completion-requires
     pair-requires
-    tell-pairing-requires
     close-requires
-    tell-completion-requires-2
     entry-number-requires
     route-of-requires
     entry-number-requires-2
     money-of-requires
     return-money-requires
-    tell-returning-requires
     play-on-order-requires
     same-length
     returns

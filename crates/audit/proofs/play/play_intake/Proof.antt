@@ -5,7 +5,7 @@ use Rattle.epe.specs.Profile.{asFees, feesFit}
 use Rattle.model.specs.Calls.{Intake}
 use Rattle.book.proofs.IntakeActs.{profile-refused}
 use Rattle.audit.specs.Journal.{profileIn}
-use Rattle.book.proofs.Telling.{plays}
+use Rattle.book.proofs.Telling.{plays, plays-same}
 use Rattle.audit.proofs.CallOfEntry.{unfit}
 use Rattle.audit.proofs.JournalLaws.{fields-there}
 use borrow.Author.Needs.{needs}
@@ -45,19 +45,15 @@ entry-text-requires-2 c κs = search needs
 intake-requires : tie.Need-intake-requires
 intake-requires c κs = search needs
 
-tell-acceptance-requires : tie.Need-tell-acceptance-requires
-tell-acceptance-requires c κs = search needs
-
 same-length : tie.Need-same-length
 same-length c = search needs
 
 returns-2 : tie.Need-returns-2
 returns-2 c =
-    let made = c .before .before .before in
+    let made = c .before .before in
     let second = made .before in
     let first = second .before in
-    plays (λ i. Intake (first .before .profile-in .ensures i) (first .entry-text .ensures i) (second .entry-text2 .ensures i)) (made .intake .ensures)
-    (c .tell-acceptance .ensures)
+    plays-same (λ i. Intake (first .before .profile-in .ensures i) (first .entry-text .ensures i) (second .entry-text2 .ensures i)) (made .intake .ensures)
 
 pub play-intake-spec : {M : Type 1} → statement M
 play-intake-spec =
@@ -71,6 +67,5 @@ play-intake-spec =
     entry-text-requires
     entry-text-requires-2
     intake-requires
-    tell-acceptance-requires
     same-length
     returns-2)

@@ -1,5 +1,5 @@
 -- `audit::play::play_transfer` makes a transfer of the text and the number of the entry.
-use Rattle.book.proofs.Telling.{plays}
+use Rattle.book.proofs.Telling.{plays-same}
 use Rattle.audit.proofs.JournalLaws.{fields-there}
 use Rattle.model.specs.Calls.{Transfer}
 use borrow.Author.Needs.{needs}
@@ -15,17 +15,14 @@ entry-number-requires c κs = fields-there _ (c .before .before .before .before 
 transfer-requires : tie.Need-transfer-requires
 transfer-requires c κs = search needs
 
-tell-completion-requires : tie.Need-tell-completion-requires
-tell-completion-requires c κs = search needs
-
 same-length : tie.Need-same-length
 same-length c = search needs
 
 returns : tie.Need-returns
 returns c =
-    let made = c .before .before .before in
+    let made = c .before .before in
     let number = made .before in
-    plays (λ i. Transfer (number .before .entry-text .ensures i) (number .entry-number .ensures i)) (made .transfer .ensures) (c .tell-completion .ensures)
+    plays-same (λ i. Transfer (number .before .entry-text .ensures i) (number .entry-number .ensures i)) (made .transfer .ensures)
 
 pub play-transfer-spec : {M : Type 1} → statement M
 play-transfer-spec =
@@ -34,6 +31,5 @@ play-transfer-spec =
     entry-text-requires
     entry-number-requires
     transfer-requires
-    tell-completion-requires
     same-length
     returns)

@@ -1,8 +1,8 @@
--- `buntingraft::buntingraft_pair` pairs the shipment of an identifier.
-use Rattle.buntingraft.proofs.Exporting.{plays-on}
+-- `book::told::pair` pairs the shipment of an identifier.
+use Rattle.book.proofs.Telling.{plays-on}
 use borrow.Author.Needs.{needs}
-use Rattle.buntingraft.proofs.buntingraft_pair.Statement.{statement}
-use Rattle.buntingraft.proofs.buntingraft_pair.Tie as tie
+use Rattle.book.proofs.told.pair.Statement.{statement}
+use Rattle.book.proofs.told.pair.Tie as tie
 
 ident-of-requires : tie.Need-ident-of-requires
 ident-of-requires c κs = search needs
@@ -21,6 +21,6 @@ returns c =
     let made = c .before .before .before in
     plays-on (made .before .ident-of .ensures) (made .pair .ensures) (c .tell-pairing .ensures)
 
-pub buntingraft-pair-spec : {M : Type 1} → statement M
-buntingraft-pair-spec =
+pub pair-spec : {M : Type 1} → statement M
+pair-spec =
     tie.close (tie.spec ident-of-requires pair-requires tell-pairing-requires same-length returns)

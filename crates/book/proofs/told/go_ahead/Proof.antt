@@ -1,8 +1,8 @@
--- `buntingraft::buntingraft_go_ahead` takes a go-ahead for the shipment of an identifier.
-use Rattle.buntingraft.proofs.Exporting.{plays-on}
+-- `book::told::go_ahead` takes a go-ahead for the shipment of an identifier.
+use Rattle.book.proofs.Telling.{plays-on}
 use borrow.Author.Needs.{needs}
-use Rattle.buntingraft.proofs.buntingraft_go_ahead.Statement.{statement}
-use Rattle.buntingraft.proofs.buntingraft_go_ahead.Tie as tie
+use Rattle.book.proofs.told.go_ahead.Statement.{statement}
+use Rattle.book.proofs.told.go_ahead.Tie as tie
 
 ident-of-requires : tie.Need-ident-of-requires
 ident-of-requires c κs = search needs
@@ -21,7 +21,7 @@ returns c =
     let made = c .before .before .before in
     plays-on (made .before .ident-of .ensures) (made .go-ahead .ensures) (c .tell-completion .ensures)
 
-pub buntingraft-go-ahead-spec : {M : Type 1} → statement M
-buntingraft-go-ahead-spec =
+pub go-ahead-spec : {M : Type 1} → statement M
+go-ahead-spec =
     tie.close
     (tie.spec ident-of-requires go-ahead-requires tell-completion-requires same-length returns)

@@ -1,8 +1,8 @@
--- `buntingraft::buntingraft_withdraw` withdraws an order of the shipment of an identifier.
-use Rattle.buntingraft.proofs.Exporting.{plays-on}
+-- `book::told::withdraw` withdraws an order of the shipment of an identifier.
+use Rattle.book.proofs.Telling.{plays-on}
 use borrow.Author.Needs.{needs}
-use Rattle.buntingraft.proofs.buntingraft_withdraw.Statement.{statement}
-use Rattle.buntingraft.proofs.buntingraft_withdraw.Tie as tie
+use Rattle.book.proofs.told.withdraw.Statement.{statement}
+use Rattle.book.proofs.told.withdraw.Tie as tie
 
 ident-of-requires : tie.Need-ident-of-requires
 ident-of-requires c κs = search needs
@@ -21,7 +21,7 @@ returns c =
     let made = c .before .before .before in
     plays-on (made .before .ident-of .ensures) (made .withdraw .ensures) (c .tell-completion .ensures)
 
-pub buntingraft-withdraw-spec : {M : Type 1} → statement M
-buntingraft-withdraw-spec =
+pub withdraw-spec : {M : Type 1} → statement M
+withdraw-spec =
     tie.close
     (tie.spec ident-of-requires withdraw-requires tell-completion-requires same-length returns)

@@ -1,8 +1,8 @@
--- `buntingraft::buntingraft_close` closes the shipment of an identifier.
-use Rattle.buntingraft.proofs.Exporting.{plays-on}
+-- `book::told::close` closes the shipment of an identifier.
+use Rattle.book.proofs.Telling.{plays-on}
 use borrow.Author.Needs.{needs}
-use Rattle.buntingraft.proofs.buntingraft_close.Statement.{statement}
-use Rattle.buntingraft.proofs.buntingraft_close.Tie as tie
+use Rattle.book.proofs.told.close.Statement.{statement}
+use Rattle.book.proofs.told.close.Tie as tie
 
 ident-of-requires : tie.Need-ident-of-requires
 ident-of-requires c κs = search needs
@@ -21,6 +21,6 @@ returns c =
     let made = c .before .before .before in
     plays-on (made .before .ident-of .ensures) (made .close .ensures) (c .tell-completion .ensures)
 
-pub buntingraft-close-spec : {M : Type 1} → statement M
-buntingraft-close-spec =
+pub close-spec : {M : Type 1} → statement M
+close-spec =
     tie.close (tie.spec ident-of-requires close-requires tell-completion-requires same-length returns)

@@ -1,8 +1,8 @@
--- `buntingraft::buntingraft_mark_undelivered` marks an order of the shipment of an identifier.
-use Rattle.buntingraft.proofs.Exporting.{plays-on}
+-- `book::told::mark_undelivered` marks an order of the shipment of an identifier.
+use Rattle.book.proofs.Telling.{plays-on}
 use borrow.Author.Needs.{needs}
-use Rattle.buntingraft.proofs.buntingraft_mark_undelivered.Statement.{statement}
-use Rattle.buntingraft.proofs.buntingraft_mark_undelivered.Tie as tie
+use Rattle.book.proofs.told.mark_undelivered.Statement.{statement}
+use Rattle.book.proofs.told.mark_undelivered.Tie as tie
 
 ident-of-requires : tie.Need-ident-of-requires
 ident-of-requires c κs = search needs
@@ -21,7 +21,7 @@ returns c =
     let made = c .before .before .before in
     plays-on (made .before .ident-of .ensures) (made .mark-undelivered .ensures) (c .tell-completion .ensures)
 
-pub buntingraft-mark-undelivered-spec : {M : Type 1} → statement M
-buntingraft-mark-undelivered-spec =
+pub mark-undelivered-spec : {M : Type 1} → statement M
+mark-undelivered-spec =
     tie.close
     (tie.spec ident-of-requires mark-undelivered-requires tell-completion-requires same-length returns)

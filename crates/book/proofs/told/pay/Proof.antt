@@ -1,8 +1,8 @@
--- `buntingraft::buntingraft_pay` pays an order of the shipment of an identifier.
-use Rattle.buntingraft.proofs.Exporting.{plays-on}
+-- `book::told::pay` pays an order of the shipment of an identifier.
+use Rattle.book.proofs.Telling.{plays-on}
 use borrow.Author.Needs.{needs}
-use Rattle.buntingraft.proofs.buntingraft_pay.Statement.{statement}
-use Rattle.buntingraft.proofs.buntingraft_pay.Tie as tie
+use Rattle.book.proofs.told.pay.Statement.{statement}
+use Rattle.book.proofs.told.pay.Tie as tie
 
 ident-of-requires : tie.Need-ident-of-requires
 ident-of-requires c κs = search needs
@@ -21,6 +21,6 @@ returns c =
     let made = c .before .before .before in
     plays-on (made .before .ident-of .ensures) (made .pay .ensures) (c .tell-payment .ensures)
 
-pub buntingraft-pay-spec : {M : Type 1} → statement M
-buntingraft-pay-spec =
+pub pay-spec : {M : Type 1} → statement M
+pay-spec =
     tie.close (tie.spec ident-of-requires pay-requires tell-payment-requires same-length returns)

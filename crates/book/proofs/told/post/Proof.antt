@@ -1,8 +1,8 @@
--- `buntingraft::buntingraft_post` posts an order of the shipment of an identifier.
-use Rattle.buntingraft.proofs.Exporting.{plays-on}
+-- `book::told::post` posts an order of the shipment of an identifier.
+use Rattle.book.proofs.Telling.{plays-on}
 use borrow.Author.Needs.{needs}
-use Rattle.buntingraft.proofs.buntingraft_post.Statement.{statement}
-use Rattle.buntingraft.proofs.buntingraft_post.Tie as tie
+use Rattle.book.proofs.told.post.Statement.{statement}
+use Rattle.book.proofs.told.post.Tie as tie
 
 ident-of-requires : tie.Need-ident-of-requires
 ident-of-requires c κs = search needs
@@ -21,6 +21,6 @@ returns c =
     let made = c .before .before .before in
     plays-on (made .before .ident-of .ensures) (made .post .ensures) (c .tell-posting .ensures)
 
-pub buntingraft-post-spec : {M : Type 1} → statement M
-buntingraft-post-spec =
+pub post-spec : {M : Type 1} → statement M
+post-spec =
     tie.close (tie.spec ident-of-requires post-requires tell-posting-requires same-length returns)
