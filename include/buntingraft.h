@@ -1,5 +1,6 @@
 /*
- * Buntingraft: the settlement book for EPE shipments, as C calls it. Link libbuntingraft.a (x86-64 Linux, System V ABI).
+ * Buntingraft: the settlement book for EPE shipments, as C calls it. Link libbuntingraft.a, and libbuntingraft_replay.a beside
+ * it where a journal is replayed (x86-64 Linux, System V ABI).
  *
  * The insurer sends an order file for a shipment and two bank transfers: one for the orders' amounts, called K, and one for
  * the contractor's fees, called O. The two are different moneys and are never added. All sums are whole grosze.
@@ -306,6 +307,7 @@ struct buntingraft_reply buntingraft_sheet(const uint8_t *book, size_t book_leng
 /*
  * Makes every call of a journal in an empty book, one after the other, and tells every reply: the calls do what the same calls
  * made one by one would do, and reply the same. So a site's journal shows from the first call on what its book holds and why.
+ * It is an auditor's, and in an archive of its own, libbuntingraft_replay.a: a program that only makes calls does without it.
  *
  * `journal` is the number of its entries in eight bytes, then the entries one behind the other, and nothing behind the last.
  * Numbers are stored least byte first. An entry is

@@ -1,6 +1,7 @@
 /*
- * Holds libbuntingraft.a to what include/buntingraft.h says of the stack: every call is made on a stack of 32 KiB, behind which
- * there is no memory. Prints how much of it each call took, and fails where one took it all or was not answered as here asked.
+ * Holds libbuntingraft.a and libbuntingraft_replay.a to what include/buntingraft.h says of the stack: every call is made on a
+ * stack of 32 KiB, behind which there is no memory. Prints how much of it each call took, and fails where one took it all or was
+ * not answered as here asked.
  */
 #define _GNU_SOURCE
 #include <signal.h>

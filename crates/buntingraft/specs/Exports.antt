@@ -1,5 +1,5 @@
 -- What the exports ensure: the reply is the call's answer in three numbers (`replyOf`), and the memory is as the call's own promise has it (`Does`).
--- `Plays` says both of a call; making an empty book, a return, a sheet and a replay have a record here.
+-- `Plays` says both of a call; making an empty book, a return and a sheet have a record here.
 use mathlib.Core.Path.{_≡_}
 use mathlib.Core.Bool.{true, false}
 use mathlib.Core.List.{List}
@@ -17,9 +17,6 @@ use Rattle.sheet.specs.declared.Sheeting.{Sheeting}
 use Rattle.sheet.specs.declared.Sheeting.the-variants.{Filled, Refused}
 use Rattle.sheet.specs.declared.SheetRow.{SheetRow}
 use Rattle.sheet.specs.declared.Totals.{Totals}
-use Rattle.audit.specs.Replay.{Replays}
-use Rattle.audit.specs.declared.Replaying.{Replaying}
-use Rattle.audit.specs.declared.Replaying.the-variants as replaying
 
 -- An empty book was made, or not, and the answer is told.
 pub record Makes (before : List ℕ) (reply : Reply) (after : List ℕ) : Type 0 where
@@ -41,19 +38,3 @@ pub record Sheets (book : List ℕ) (table : List SheetRow) (totals : Totals) (r
   pub is-reply : reply ≡ replyToSheet (sheetOf (readBook book) table totals .answer)
   pub rows : table′ ≡ sheetOf (readBook book) table totals .table
   pub sums : totals′ ≡ sheetOf (readBook book) table totals .totals
-
--- A replay answers the number of its calls. Where none was made the status is 3, and the number says why: 1 the journal is not whole entries, 2 the
--- table has fewer places than the journal has entries, 3 the memory holds no empty book. The book and the table are as `Replays` has them.
-abbrev pub notReplayed : ℕ → Reply
-notReplayed number = record { status = 3; first = number; second = 0 }
-
-abbrev pub replyToReplay : Replaying → Reply
-replyToReplay (replaying.Replayed calls) = doneWith calls 0
-replyToReplay replaying.NotEncoded = notReplayed 1
-replyToReplay replaying.TooFewAnswers = notReplayed 2
-replyToReplay replaying.NotEmpty = notReplayed 3
-
-pub record TellsReplay (book journal : List ℕ) (table : List (List ℕ)) (reply : Reply) (book′ : List ℕ) (table′ : List (List ℕ)) : Type 0 where
-  pub ending : Replaying
-  pub replays : Replays book journal table ending book′ table′
-  pub is-reply : reply ≡ replyToReplay ending

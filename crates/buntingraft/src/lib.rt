@@ -1,5 +1,4 @@
-// The C ABI of the library: its exports, and nothing else. include/buntingraft.h says what each is for.
-use audit::Replaying;
+// The C ABI of libbuntingraft.a: its exports, and nothing else. include/buntingraft.h says what each is for.
 use book::numbers::are_known;
 use book::numbers::money_of;
 use book::numbers::route_of;
@@ -19,7 +18,7 @@ ghost use Rattle.model.specs.Calls.{GoAhead, Pair, Close, OnOrder, Intake, Tran
 ghost use Rattle.model.specs.declared.Deed.the-variants.{Post, Pay, MarkUndelivered, Withdraw};
 ghost use Rattle.memory.specs.Layout.{size};
 ghost use Rattle.book.specs.Reply.{Plays};
-ghost use Rattle.buntingraft.specs.Exports.{notReplayed, replyToSheet, replyToReplay, Makes, Returns, Sheets, TellsReplay};
+ghost use Rattle.buntingraft.specs.Exports.{replyToSheet, Makes, Returns, Sheets};
 
 // How many bytes a book takes.
 #[no_mangle]
@@ -146,39 +145,4 @@ pub extern "C" fn buntingraft_sheet(
 {
     let sheeting = sheet::sheet(book, table, totals);
     tell_sheet(sheeting)
-}
-
-// A journal, a table or a memory that is not fit for a replay.
-fn not_replayed(number: u64) -> Reply
-    ensures { λ r. ⌜ r ≡ notReplayed number ⌝ }
-{
-    Reply {
-        status: 3,
-        first: number,
-        second: 0,
-    }
-}
-
-// How a replay ended, in three numbers.
-fn tell_replaying(replaying: Replaying) -> Reply
-    ensures { λ r. ⌜ r ≡ replyToReplay replaying ⌝ }
-{
-    match replaying {
-        Replaying::Replayed(calls) => done(calls, 0),
-        Replaying::NotEncoded => not_replayed(1),
-        Replaying::TooFewAnswers => not_replayed(2),
-        Replaying::NotEmpty => not_replayed(3),
-    }
-}
-
-// Makes every call of a journal, and tells every answer in a lent table: a reply is three numbers, one behind the other, as `Reply` has them.
-#[no_mangle]
-pub extern "C" fn buntingraft_replay(
-    book: &mut [u8],
-    journal: &[u8],
-    answers: &mut [[u64; 3]],
-) -> Reply
-    ensures { λ r. ⌜ TellsReplay (now (book .entry)) (now (journal .entry)) (now (answers .entry)) r (now (book .exit)) (now (answers .exit)) ⌝ }
-{
-    tell_replaying(audit::replay(book, journal, answers))
 }

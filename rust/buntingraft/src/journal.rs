@@ -137,7 +137,7 @@ pub enum NotReplayed {
 }
 
 impl NotReplayed {
-    /// The reason with a number of the archive.
+    /// The reason with a number of the replay.
     pub(crate) fn of(number: u64) -> NotReplayed {
         match number {
             1 => NotReplayed::NotWhole,

@@ -1,5 +1,5 @@
-//! The archive as include/buntingraft.h declares it: the records that it takes,
-//! gives and fills, and its functions.
+//! The archives as include/buntingraft.h declares them: the records that they
+//! take, give and fill, and their functions.
 
 use crate::money::{Amount, Fee};
 
@@ -101,8 +101,8 @@ pub(crate) type OnShipment = unsafe extern "C" fn(*mut u8, usize, *const u8, usi
 /// number.
 pub(crate) type OnOrder = unsafe extern "C" fn(*mut u8, usize, *const u8, usize, u64) -> Reply;
 
-// SAFETY: these are the header's declarations, and the archive defines each of
-// them.
+// SAFETY: these are the header's declarations, and one of the two archives
+// defines each of them.
 unsafe extern "C" {
     pub(crate) safe fn buntingraft_book_bytes() -> u64;
 

@@ -4,7 +4,7 @@
 //!
 //! - [`twin`], [`lent`], [`layout`]: lent memory and the reference's book side by side.
 //! - [`sheet`], [`lendings`]: the balance sheet of both, and what it is lent.
-//! - [`journal`], [`replay`]: a list of calls as bytes, replayed by the archive.
+//! - [`journal`], [`replay`]: a list of calls as bytes, and its replay.
 //! - [`run`], [`ledger`]: a list of calls under way, and demand 3 over it.
 //! - [`directed`], [`memory`], [`lists`]: the cases, memory and lists tried.
 //! - [`coverage`]: what of it all was reached.

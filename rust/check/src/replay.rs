@@ -1,4 +1,4 @@
-//! A journal replayed by the archive, held to the same calls made one by one.
+//! A journal replayed, held to the same calls made one by one.
 
 use crate::coverage::Coverage;
 use crate::journal::{has_place, read, recounted, written, Entry};
@@ -152,7 +152,7 @@ pub fn check_list(
     Ok(())
 }
 
-/// Does the archive read these bytes as docs/LAYOUT.md has a journal? Where
+/// Does the replay read these bytes as docs/LAYOUT.md has a journal? Where
 /// they are one its calls are made one by one too, on both books.
 pub fn check_bytes(journal: &[u8], coverage: &mut Coverage) -> Result<(), String> {
     let Some(calls) = read(journal) else {

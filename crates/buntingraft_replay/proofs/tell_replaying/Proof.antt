@@ -1,7 +1,7 @@
--- `buntingraft::tell_replaying` goes by how the replay ended.
+-- `buntingraft_replay::tell_replaying` goes by how the replay ended.
 use borrow.Author.Needs.{needs}
-use Rattle.buntingraft.proofs.tell_replaying.Statement.{statement}
-use Rattle.buntingraft.proofs.tell_replaying.Tie as tie
+use Rattle.buntingraft_replay.proofs.tell_replaying.Statement.{statement}
+use Rattle.buntingraft_replay.proofs.tell_replaying.Tie as tie
 
 enum-known-replaying : tie.Need-enum-known-replaying
 enum-known-replaying c = search needs
