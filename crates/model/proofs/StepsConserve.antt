@@ -4,7 +4,7 @@
 use mathlib.Core.Path.{_≡_, refl, sym, ap, _∙_, subst, subst₂}
 use mathlib.Core.Bool.{Bool, true, false, cond, false≢true}
 use mathlib.Core.List.{List, [], _∷_, _++_}
-use mathlib.Core.Option.{Option, some, none}
+use mathlib.Core.Option.{Option, some}
 use Prim.Native.Nat.{ℕ, _+_}
 use native.Mathlib.Omega.{arith}
 use Rattle.text.proofs.Branches.{and-left, cond-either, either-way}
@@ -18,7 +18,7 @@ use Rattle.epe.specs.declared.name.Name.{Name}
 use Rattle.epe.specs.declared.profile.Profile.{Profile}
 use Rattle.contents.specs.declared.record.Order.{Order}
 use Rattle.epe.proofs.IdentLaws.{same-is-equal}
-use Rattle.model.specs.Shipment.{byMoney, Shipment, accepted, onlyIf, free, held, holds}
+use Rattle.model.specs.Shipment.{Shipment, accepted, onlyIf, free, held}
 use Rattle.model.specs.Calls.{Act, Call, Intake, Transfer, On, Answer, Refused, Accepted, isRefusal, Outcome, transferred, acted}
 use Rattle.model.specs.Book.{Book, Step, stay, onFirst, isCalled, sameName, find, isUnknown, entered}
 use Rattle.model.specs.Book.{step}

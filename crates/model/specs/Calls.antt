@@ -8,7 +8,7 @@ use Rattle.text.specs.Bytes.{between}
 use Rattle.money.specs.Money.{isSum}
 use Rattle.money.specs.declared.Money.{Money}
 use Rattle.money.specs.declared.Money.the-variants.{K, O}
-use Rattle.epe.specs.Questions.{Question, _elseNo_, asked}
+use Rattle.epe.specs.Questions.{_elseNo_, asked}
 use Rattle.epe.specs.declared.ident.Ident.{Ident}
 use Rattle.epe.specs.declared.profile.Profile.{Profile}
 use Rattle.model.specs.Shipment.{byMoney, plusIn, Shipment, accepted, isWaiting, isPaired, onlyIf, sumOver, isOpen, isPosted, isFaulty, isUndelivered, isWithdrawn}
@@ -19,7 +19,7 @@ use Rattle.model.specs.declared.Route.{Route}
 use Rattle.model.specs.declared.Route.the-variants.{Zwr, Opr, Zpr, Zzr}
 use Rattle.model.specs.declared.Row.{Row}
 use Rattle.model.specs.declared.Stage.{Stage}
-use Rattle.model.specs.declared.Stage.the-variants.{Waiting, Paired, Closed}
+use Rattle.model.specs.declared.Stage.the-variants.{Paired, Closed}
 use Rattle.model.specs.declared.State.{State}
 use Rattle.model.specs.declared.State.the-variants.{Open, Posted, Paid, Faulty, Undelivered, Withdrawn}
 

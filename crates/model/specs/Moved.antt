@@ -13,6 +13,7 @@ use Rattle.model.specs.declared.Route.{Route}
 use Rattle.model.specs.declared.Route.the-variants.{Zwr, Opr, Zpr, Zzr}
 use Rattle.model.specs.declared.Row.{Row}
 
+-- One money is the other.
 abbrev pub isMoney : Money → Money → Bool
 isMoney K money = byMoney money true false
 isMoney O money = byMoney money false true

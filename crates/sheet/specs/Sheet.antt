@@ -9,7 +9,7 @@ use lib.ListN.{length, drop}
 use Rattle.money.specs.Money.{amount, fee, isTotal}
 use Rattle.money.specs.declared.Money.{Money}
 use Rattle.money.specs.declared.Money.the-variants.{K, O}
-use Rattle.epe.specs.Questions.{Question, _elseNo_, asked}
+use Rattle.epe.specs.Questions.{_elseNo_, asked}
 use Rattle.epe.specs.declared.ident.Ident.{Ident}
 use Rattle.model.specs.Shipment.{Shipment, accepted, returned, isPaired, onlyIf, sumOver, isPosted, isFaulty, isUndelivered, isWithdrawn}
 use Rattle.model.specs.Shipment.{waits, worth, free, held}

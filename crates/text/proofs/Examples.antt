@@ -7,7 +7,7 @@ use Prim.Native.Nat.{ℕ}
 use lib.ListN.{replicate}
 use Rattle.text.specs.Bytes.{digit, letter, hasByte}
 use Rattle.text.specs.Number.{numberAfter, number}
-use Rattle.text.specs.Fields.{onto, fields, cutsFrom, cutTable, cutCount, fieldBy}
+use Rattle.text.specs.Fields.{onto, fields, cutsFrom, cutTable, fieldBy}
 use Rattle.text.specs.Lines.{parted, withoutLastEnd, lines, stray}
 use Rattle.text.specs.declared.number.Number.the-variants.{Of, Not}
 

@@ -9,11 +9,10 @@ use mathlib.Core.Bool.{Bool, true, false, cond}
 use mathlib.Core.List.{List, [], _∷_, _++_}
 use Prim.Native.Nat.{ℕ, zero, suc, min, _+_, _-_, _<_, _≤_}
 use native.Mathlib.Decide.{decLe, decLt}
-use native.Mathlib.Numerals.{add-one}
 use native.Mathlib.Omega.{arith}
 use borrow.Author.Tests.{lt-ltb, le-ltb, eq-eqb, ne-eqb, eqb-true, eqb-false}
 use lib.Dec.{eqb, ltb}
-use lib.ListN.{length, getD, take, drop, replicate, length-drop, List·getD-append, List·getD-eq-default}
+use lib.ListN.{length, getD, drop, replicate, length-drop, List·getD-append, List·getD-eq-default}
 use lib.Seq.{take-all, drop-drop, getD-take}
 use Rattle.text.specs.Bytes.{part}
 use Rattle.text.specs.Fields.{onto, fields, cutsFrom, cuts, cutTable, cutCount, fieldBy}

@@ -1,6 +1,6 @@
 -- A list from a place on, as a loop that reads `s[i]` and goes on to `i + 1` meets it, and parts of a list that reach past its end.
 -- Assumes nothing.
-use mathlib.Core.Path.{_≡_, refl, sym, _∙_}
+use mathlib.Core.Path.{_≡_, sym, _∙_}
 use mathlib.Core.List.{List, _∷_}
 use Prim.Native.Nat.{ℕ, min, _+_, _-_, _<_, _≤_}
 use native.Mathlib.Decide.{decLe}

@@ -1,7 +1,7 @@
 -- Fields of a text at a separator, and the table of the separators' places by which each field is found again.
-use mathlib.Core.Bool.{Bool, true, false, cond}
+use mathlib.Core.Bool.{cond}
 use mathlib.Core.List.{List, [], _∷_, _++_}
-use Prim.Native.Nat.{ℕ, suc, min, _+_, _-_}
+use Prim.Native.Nat.{ℕ, min, _+_, _-_}
 use lib.Dec.{eqb, ltb}
 use lib.ListN.{length, getD, take, replicate}
 use Rattle.text.specs.Bytes.{part}

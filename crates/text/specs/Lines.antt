@@ -1,7 +1,7 @@
 -- "After the bytes EF BB BF (hexadecimal) lines are parted by CR LF; one CR LF after the last line is allowed and adds no line.
 -- Another CR or LF spoils its line (004 in the header, 901 elsewhere)."
 -- CR is the byte 0D and LF the byte 0A. CR LF pairs cannot overlap, so the parting is unique, and a CR or LF left over belongs to its line.
-use mathlib.Core.Bool.{Bool, true, false, cond, _&&_, _||_}
+use mathlib.Core.Bool.{Bool, cond, _&&_, _||_}
 use mathlib.Core.List.{List, [], _∷_}
 use Prim.Native.Nat.{ℕ, suc, _+_, _-_}
 use lib.Dec.{eqb}

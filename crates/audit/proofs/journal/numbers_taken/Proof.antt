@@ -1,7 +1,6 @@
 -- `audit::journal::numbers_taken` goes by the call.
 use Rattle.text.proofs.Branches.{branches}
 use Rattle.audit.specs.Journal.{numbersTaken}
-use borrow.Author.Needs.{needs}
 use Rattle.audit.proofs.journal.numbers_taken.Statement.{statement}
 use Rattle.audit.proofs.journal.numbers_taken.Tie as tie
 

@@ -1,7 +1,6 @@
 -- `audit::journal::texts_taken` goes by the call.
 use Rattle.text.proofs.Branches.{branches}
 use Rattle.audit.specs.Journal.{textsTaken}
-use borrow.Author.Needs.{needs}
 use Rattle.audit.proofs.journal.texts_taken.Statement.{statement}
 use Rattle.audit.proofs.journal.texts_taken.Tie as tie
 

@@ -1,10 +1,8 @@
 -- `contents::stated::states_money` is above zero where the stated sum is.
 use mathlib.Core.Path.{ap}
-use mathlib.Core.List.{List}
 use Prim.Native.Nat.{ℕ}
 use borrow.Author.Needs.{needs}
-use lib.Dec.{leb, ltb}
-use lib.ListN.{length}
+use lib.Dec.{ltb}
 use Rattle.contents.proofs.stated.states_money.Statement.{statement}
 use Rattle.contents.proofs.stated.states_money.Tie as tie
 

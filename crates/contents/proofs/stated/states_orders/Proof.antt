@@ -1,10 +1,8 @@
 -- `contents::stated::states_orders` is at least one where the stated count is.
 use mathlib.Core.Path.{ap}
-use mathlib.Core.List.{List}
 use Prim.Native.Nat.{ℕ}
 use borrow.Author.Needs.{needs}
-use lib.Dec.{leb, ltb}
-use lib.ListN.{length}
+use lib.Dec.{leb}
 use Rattle.contents.proofs.stated.states_orders.Statement.{statement}
 use Rattle.contents.proofs.stated.states_orders.Tie as tie
 

@@ -1,5 +1,5 @@
 -- `text::bytes::find`: what is passed, with the bytes before b in what is left, gives the whole.
-use mathlib.Core.Path.{_≡_, refl, sym, _∙_}
+use mathlib.Core.Path.{_≡_}
 use Prim.Native.Nat.{_+_, _-_, _≤_}
 use native.Mathlib.Omega.{arith}
 use borrow.Author.Needs.{needs}

@@ -1,5 +1,5 @@
 -- `text::fields::note_cuts`: the places noted, and the cuts of what is left of the text, are all the cuts.
-use mathlib.Core.Path.{_≡_, refl, sym, _∙_}
+use mathlib.Core.Path.{_≡_, refl, _∙_}
 use mathlib.Core.List.{[], _++_}
 use Prim.Native.Nat.{_+_, _-_, _≤_}
 use native.Mathlib.Omega.{arith}
