@@ -164,12 +164,13 @@ struct buntingraft_reply buntingraft_intake(uint8_t *book, size_t book_length, s
 /*
  * Takes a bank transfer of `amount` grosze, for the shipment and the money that its title says, in any stage.
  *
- * `title` is the shipment's whole name, as at intake, and then `-K` or `-O`, as EPEZZS1-201007-A-0-K.
+ * `title` is the shipment's whole name, as at intake, and then `-K` or `-O`, as EPEZZS1-201007-A-0-K. Its date may have eight
+ * digits, `20` and the name's six: EPEZZS1-20201007-A-0-K says the same.
  *
  * Done: 0, 0.
  *
  *    10  Is the book's memory long enough, and a sound book?
- *    11  Is the title a shipment name and then `-K` or `-O`?
+ *    11  Is the title a shipment name, with a date of six digits or of `20` and six, and then `-K` or `-O`?
  *    12  Is the amount 1 to 9,999,999,999,999?
  *    13  Is a shipment of that whole name in the book?
  *    14  Would the shipment's transfers of that money, with this one, still be at most 9,999,999,999,999 in all?

@@ -3,6 +3,7 @@ pub mod Asking
 pub mod IdentLaws
 pub mod ProfileLaws
 pub mod NameLaws
+pub mod TitleLaws
 pub mod FieldsByTable
 pub mod FieldLengths
 pub mod LineWalk

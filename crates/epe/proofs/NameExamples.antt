@@ -16,7 +16,7 @@ use Rattle.calendar.specs.Calendar.{real, leap, monthLength}
 use Rattle.epe.specs.Questions.{firstNo, isPassed, asked}
 use Rattle.epe.specs.Ident.{identifier, identOf, sameIdent, identInForm}
 use Rattle.epe.specs.Profile.{asFees, feesFit, profileFits}
-use Rattle.epe.specs.Name.{nameQuestions, nameOf, titleQuestions, titleOf}
+use Rattle.epe.specs.Name.{nameQuestions, nameOf, hasLongDate, shortTitle, titleQuestions, titleOf, longTitle}
 use Rattle.epe.specs.declared.profile.Profile.{Profile}
 use Rattle.epe.specs.declared.verdict.Verdict.{Verdict}
 use Rattle.epe.specs.declared.verdict.Verdict.the-variants.{Passed, Refused}
@@ -84,30 +84,61 @@ unfolding nameOf identOf identifier lettersOrDigits letterOrDigit letter fields 
 parts = refl
 
 titled : String → Verdict
-unfolding titleOf titleQuestions isPassed nameQuestions asked same fields onto identifier lettersOrDigits letterOrDigit letter number numberAfter isNumber valueOf digit real leap monthLength
+unfolding titleOf titleQuestions shortTitle hasLongDate isPassed nameQuestions asked same fields onto identifier lettersOrDigits letterOrDigit letter number numberAfter isNumber valueOf digit real leap monthLength
 titled s = titleOf (bytes s) .verdict
 
 titles : map titled ("EPEZZS1-201007-A-0-K" ∷ "EPEZZS1-201007-A-0-O" ∷ []) ≡ Passed ∷ Passed ∷ []
 unfolding titled
 titles = refl
 
--- None of them a title: lower case, trailing bytes, an eight-digit date, no ending, too short for one.
-titles-refused : map titled ("EPEZZS1-201007-A-0-k" ∷ "EPEZZS1-201007-A-0-K " ∷ "EPEZZS1-20201007-A-0-K" ∷ "EPEZZS1-201007-A-0" ∷ "K" ∷ [])
-    ≡ Refused 11 ∷ Refused 11 ∷ Refused 11 ∷ Refused 11 ∷ Refused 11 ∷ []
+-- Long dates: the paper's, of either money, and 29 February 2000.
+long-titles : map titled ("EPEZZS1-20201007-A-0-K" ∷ "EPEZZS1-20201007-A-0-O" ∷ "EPEZZS1-20000229-A-0-K" ∷ []) ≡ Passed ∷ Passed ∷ Passed ∷ []
+unfolding titled
+long-titles = refl
+
+-- None of them a title: lower case, trailing bytes, no ending, too short for one.
+titles-refused : map titled ("EPEZZS1-201007-A-0-k" ∷ "EPEZZS1-201007-A-0-K " ∷ "EPEZZS1-201007-A-0" ∷ "K" ∷ [])
+    ≡ Refused 11 ∷ Refused 11 ∷ Refused 11 ∷ Refused 11 ∷ []
 unfolding titled
 titles-refused = refl
 
+-- Nor are: another century, 30 February, a byte that is no digit.
+long-refused : map titled ("EPEZZS1-19201007-A-0-K" ∷ "EPEZZS1-21201007-A-0-K" ∷ "EPEZZS1-20200230-A-0-K" ∷ "EPEZZS1-2020100x-A-0-K" ∷ [])
+    ≡ Refused 11 ∷ Refused 11 ∷ Refused 11 ∷ Refused 11 ∷ []
+unfolding titled
+long-refused = refl
+
+-- Seven digits, nine, a hyphen behind the 20, and six that are no date, although they begin a long one.
+near-long-refused : map titled ("EPEZZS1-2020107-A-0-K" ∷ "EPEZZS1-020201007-A-0-K" ∷ "EPEZZS1-20-201007-A-0-K" ∷ "EPEZZS1-202010-A-0-K" ∷ [])
+    ≡ Refused 11 ∷ Refused 11 ∷ Refused 11 ∷ Refused 11 ∷ []
+unfolding titled
+near-long-refused = refl
+
 -- What a title gives: the name before its ending, and the money of its ending.
-abbrev money : String → Money
+money : String → Money
+unfolding titleOf shortTitle hasLongDate same fields onto
 money s = titleOf (bytes s) .money
 
-moneys : map money ("EPEZZS1-201007-A-0-K" ∷ "EPEZZS1-201007-A-0-O" ∷ []) ≡ K ∷ O ∷ []
-unfolding titleOf same
+moneys : map money ("EPEZZS1-201007-A-0-K" ∷ "EPEZZS1-201007-A-0-O" ∷ "EPEZZS1-20201007-A-0-K" ∷ "EPEZZS1-20201007-A-0-O" ∷ []) ≡ K ∷ O ∷ K ∷ O ∷ []
+unfolding money
 moneys = refl
 
 title-name : titleOf (bytes "EPEZZS1-201007-A-0-O") .name ≡ nameOf (bytes "EPEZZS1-201007-A-0")
-unfolding titleOf
+unfolding titleOf shortTitle hasLongDate same fields onto
 title-name = refl
+
+long-title-name : titleOf (bytes "EPEZZS1-20201007-A-0-O") .name ≡ nameOf (bytes "EPEZZS1-201007-A-0")
+unfolding titleOf shortTitle hasLongDate same fields onto
+long-title-name = refl
+
+-- The long form of a title, and the short one of that.
+lengthened : longTitle (bytes "EPEZZS1-201007-A-0-K") ≡ bytes "EPEZZS1-20201007-A-0-K"
+unfolding fields onto
+lengthened = refl
+
+shortened : shortTitle (bytes "EPEZZS1-20201007-A-0-K") ≡ bytes "EPEZZS1-201007-A-0-K"
+unfolding shortTitle hasLongDate same fields onto
+shortened = refl
 
 -- Profiles by today, a fee and R: the last ones within the ranges, and each past one of them.
 abbrev profile : ℕ → ℕ → ℕ → Profile

@@ -1,7 +1,7 @@
 -- "The name is `EPEZ` + identifier, yymmdd, A or B, kind 0 to 4, joined by hyphens." And the title of a transfer.
 use mathlib.Core.Path.{_≡_}
 use mathlib.Core.Bool.{Bool, true, cond, _&&_, _||_}
-use mathlib.Core.List.{List, [], _∷_}
+use mathlib.Core.List.{List, [], _∷_, _++_}
 use Prim.Native.Nat.{ℕ, _+_, _-_}
 use lib.Dec.{eqb, leb}
 use lib.ListN.{length, getD, take, drop}
@@ -66,12 +66,25 @@ nameInForm name =
 abbrev pub PartsInForm : Type 0
 PartsInForm = (name : List ℕ) → firstNo (nameQuestions name) ≡ Passed → nameInForm (nameOf name) ≡ true
 
+-- Document 02, A1: "From now on a title's second part may also have eight digits: `20` and a name's six mean what the six alone would, and another
+-- eight is 11. File names keep six." So a title is read as the short one: without the two bytes behind its first hyphen, where its second part is
+-- eight bytes that begin 20.
+unfoldable pub hasLongDate : List ℕ → Bool
+hasLongDate title = eqb (length (namePart 2 title)) 8 && same (take 2 (namePart 2 title)) (bytes "20")
+
+-- Where its second part begins, behind the first hyphen.
+abbrev pub dateAt : List ℕ → ℕ
+dateAt title = length (namePart 1 title) + 1
+
+unfoldable pub shortTitle : List ℕ → List ℕ
+shortTitle title = cond (hasLongDate title) (take (dateAt title) title ++ drop (dateAt title + 2) title) title
+
 -- The title of a transfer: its last two bytes are its ending, and what stands before them is a name.
 abbrev pub titleName : List ℕ → List ℕ
-titleName title = take (length title - 2) title
+titleName title = take (length (shortTitle title) - 2) (shortTitle title)
 
 abbrev pub titleEnding : List ℕ → List ℕ
-titleEnding title = drop (length title - 2) title
+titleEnding title = drop (length (shortTitle title) - 2) (shortTitle title)
 
 -- "Transfer (title, amount): title is a shipment name in the form above, then `-K` or `-O`? 11. .."
 unfoldable pub titleQuestions : List ℕ → List Question
@@ -88,3 +101,10 @@ titleOf title = record {
   name = nameOf (titleName title);
   money = cond (same (titleEnding title) (bytes "-K")) K O;
 }
+
+-- A title with `20` before its date says what it says without: "`20` and a name's six mean what the six alone would".
+abbrev pub longTitle : List ℕ → List ℕ
+longTitle title = take (dateAt title) title ++ (bytes "20" ++ drop (dateAt title) title)
+
+abbrev pub LongMeansShort : Type 0
+LongMeansShort = (title : List ℕ) → length (namePart 2 title) ≡ 6 → titleOf (longTitle title) ≡ titleOf title

@@ -17,7 +17,7 @@ use Rattle.calendar.specs.Time.{clockTime, timeOfNumber, timeOfDay}
 use Rattle.epe.specs.Questions.{isPassed, asked}
 use Rattle.epe.specs.Ident.{identifier, identOf, sameIdent}
 use Rattle.epe.specs.Profile.{profileFits, feesFit}
-use Rattle.epe.specs.Name.{nameQuestions, nameOf, titleQuestions, titleOf}
+use Rattle.epe.specs.Name.{nameQuestions, nameOf, hasLongDate, shortTitle, titleQuestions, titleOf}
 use Rattle.epe.specs.File.{marked}
 use Rattle.epe.specs.Opening.{fileQuestions, fixedQuestions, repeatedQuestions, openingQuestions, opening}
 use Rattle.contents.specs.Faults.{sized, empty, placed, housed, postcode, extra, spaced, unspaced, faultQuestions, faultOf}
@@ -29,13 +29,14 @@ use Rattle.model.specs.Book.{Book, Step, sameName, entered, intakeQuesti
 use Rattle.model.specs.Demand.{isFor}
 use Rattle.model.specs.Zs1.{zs1, Table}
 use Rattle.model.specs.Neighbours.{Neighbours}
+use Rattle.model.specs.LongTitles.{LongTitles}
 
 -- names the definitions that the table computes
 unfoldable pub stepped : Book → Call → Step
-unfolding digit letter letterOrDigit lettersOrDigits same hasByte number numberAfter isNumber valueOf fields onto lines parted withoutLastEnd stray ascii tailOctet lead2 lead3 lead4 point2 point3 point4 surrogate range2 range3 range4 row2 row3 row4 width wellFormedAfter starts codePoints isAmount groszeOf textOf together real leap monthLength inWindow dayNumber daysOfYears daysOfMonths dateOf dateOfNumber dateOfDigits dateInWindow clockTime timeOfNumber timeOfDay asked isPassed identifier identOf sameIdent profileFits feesFit nameQuestions nameOf titleQuestions titleOf marked fileQuestions fixedQuestions repeatedQuestions openingQuestions opening sized empty placed housed postcode extra spaced unspaced faultQuestions faultOf dateQuestions statedQuestions shaped allShaped allPriced total recordQuestions contentsQuestions contents orderOf orders faultyCount need free held anyFaulty transferred goneAhead paired closed onOrder waiting waitingOrders returnedBy surplusReturned acted sameName entered intakeQuestions takenIn transferredIn step
+unfolding digit letter letterOrDigit lettersOrDigits same hasByte number numberAfter isNumber valueOf fields onto lines parted withoutLastEnd stray ascii tailOctet lead2 lead3 lead4 point2 point3 point4 surrogate range2 range3 range4 row2 row3 row4 width wellFormedAfter starts codePoints isAmount groszeOf textOf together real leap monthLength inWindow dayNumber daysOfYears daysOfMonths dateOf dateOfNumber dateOfDigits dateInWindow clockTime timeOfNumber timeOfDay asked isPassed identifier identOf sameIdent profileFits feesFit nameQuestions nameOf hasLongDate shortTitle titleQuestions titleOf marked fileQuestions fixedQuestions repeatedQuestions openingQuestions opening sized empty placed housed postcode extra spaced unspaced faultQuestions faultOf dateQuestions statedQuestions shaped allShaped allPriced total recordQuestions contentsQuestions contents orderOf orders faultyCount need free held anyFaulty transferred goneAhead paired closed onOrder waiting waitingOrders returnedBy surplusReturned acted sameName entered intakeQuestions takenIn transferredIn step
 stepped = step
 
-computed : Table × Neighbours
+computed : Table × Neighbours × LongTitles
 unfolding stepped isFor zs1
 computed = (
   record {
@@ -54,6 +55,7 @@ computed = (
     line-12 = refl;
   },
   record { waiting = refl; closing = refl; faultless-file = refl; paired = refl; undelivered = refl },
+  record { answers = refl; counted = (refl, refl); booked = (refl, refl, refl, refl); others = refl },
 )
 
 pub table : Table
@@ -61,3 +63,6 @@ table = computed .0
 
 pub neighbours : Neighbours
 neighbours = computed .1
+
+pub long-titles : LongTitles
+long-titles = computed .2

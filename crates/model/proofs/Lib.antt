@@ -14,3 +14,4 @@ pub mod Conserved
 pub mod NeverTwice
 pub mod Entire
 pub mod Demand3
+pub mod LongCalls

@@ -6,3 +6,4 @@ pub mod Moved
 pub mod Demand
 pub mod Zs1
 pub mod Neighbours
+pub mod LongTitles

@@ -26,9 +26,9 @@ faultless =
     "1|ZUS|EPE|1.0|ZS2|ABC123|20201007120000|20201007|B|4|1|0.01\r\n2|1|0.01|Nowak|Jan|Krakow|30-001|Krakow|Dluga|5||||ZUS/1|09.2020||||")
 
 pub record Neighbours : Type 0 where
-  -- before any money: 101, 11 (eight digits in the title), 12 (nothing, and above the cap), 13 (another date, and no such identifier), 18, 19, 24
+  -- before any money: 101, 11 (seven digits in the title), 12 (nothing, and above the cap), 13 (another date, and no such identifier), 18, 19, 24
   pub waiting : answersFrom (bookAt story 1)
-      (again ∷ Transfer (bytes "EPEZZS1-20201007-A-0-K") 1 ∷ Transfer titleK 0 ∷ Transfer titleK 10_000_000_000_000
+      (again ∷ Transfer (bytes "EPEZZS1-2020107-A-0-K") 1 ∷ Transfer titleK 0 ∷ Transfer titleK 10_000_000_000_000
       ∷ Transfer (bytes "EPEZZS1-201008-A-0-K") 1 ∷ On (identOf (bytes "ZS9")) Pair
       ∷ On zs1 Pair ∷ On zs1 (OnOrder Post 1) ∷ On zs1 (Return Opr K) ∷ On zs1 (Return Zpr O) ∷ On zs1 (Return Zwr K) ∷ [])
       ≡ Refused 101 ∷ Refused 11 ∷ Refused 12 ∷ Refused 12

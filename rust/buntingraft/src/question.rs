@@ -180,7 +180,11 @@ const INTAKE: &[Question] = &[
 
 const TRANSFER: &[Question] = &[
     SOUND,
-    ask(11, "Is the title a shipment name and then `-K` or `-O`?"),
+    ask(
+        11,
+        "Is the title a shipment name, with a date of six digits or of `20` and six, \
+         and then `-K` or `-O`?",
+    ),
     ask(12, "Is the amount 1 to 9,999,999,999,999?"),
     ask(13, "Is a shipment of that whole name in the book?"),
     ask(
