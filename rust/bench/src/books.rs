@@ -10,6 +10,8 @@ pub struct Books {
     pub id: Vec<u8>,
     /// The title of a transfer of K for it.
     pub title: Vec<u8>,
+    /// The same title with a long date.
+    pub long_title: Vec<u8>,
     /// All shipments Waiting, with money and without a go-ahead.
     pub waiting: Vec<u8>,
     /// The same with a go-ahead wherever there are faults.
@@ -24,6 +26,14 @@ pub struct Books {
 fn make(book: &mut [u8], call: Call) {
     let answer = Archive::make(book, &call);
     assert!(!matches!(answer, Answer::Refused(_)), "{answer:?}");
+}
+
+/// The title with its date's century.
+fn with_century(title: &[u8]) -> Vec<u8> {
+    let mut parts: Vec<&[u8]> = title.split(|byte| *byte == b'-').collect();
+    let date = [b"20", parts[1]].concat();
+    parts[1] = &date;
+    parts.join(&b'-')
 }
 
 impl Books {
@@ -54,6 +64,7 @@ impl Books {
         }
         Books {
             id: ids[shipments - 1].clone().into_bytes(),
+            long_title: with_century(&title),
             title,
             waiting,
             ready,

@@ -61,13 +61,15 @@ fn race_soundness(clock: &Clock, book: &[u8]) -> [f64; 2] {
 pub fn full_book(clock: &Clock, shipments: usize, orders: usize) -> [Table; 2] {
     let books = Books::new(shipments, orders, Records::Faulty);
     let mixed = books.in_all_states();
-    let id = books.id.as_slice();
+    let (id, waiting) = (books.id.as_slice(), &books.waiting);
+    let (short, long) = (&books.title, &books.long_title);
     let (open, posted) = (books.last(Fate::Open), books.last(Fate::Posted));
     let lines = [
-        ("transfer", &books.waiting, Call::Transfer(&books.title, 1)),
-        ("go-ahead", &books.waiting, Call::GoAhead(id)),
+        ("transfer", waiting, Call::Transfer(short, 1)),
+        ("transfer, long title", waiting, Call::Transfer(long, 1)),
+        ("go-ahead", waiting, Call::GoAhead(id)),
         ("pair", &books.ready, Call::Pair(id)),
-        ("close", &books.waiting, Call::Close(id)),
+        ("close", waiting, Call::Close(id)),
         ("post", &mixed, Call::Post(id, open)),
         ("pay", &mixed, Call::Pay(id, posted)),
         (

@@ -2,6 +2,7 @@
 //! are the questions of the bindings' tables.
 
 use crate::archive::kind;
+use crate::naming::has_long_date;
 use crate::sheet::Taken;
 use buntingraft::{Call, NotReplayed};
 use reference::{Answer, Book, Money, Route, State};
@@ -16,10 +17,22 @@ enum Outcome {
     Refused(u64),
 }
 
+impl Outcome {
+    /// The outcome that an answer tells of.
+    fn of(answer: &Answer) -> Outcome {
+        match answer {
+            Answer::Refused(number) => Outcome::Refused(u64::from(*number)),
+            Answer::Short { .. } => Outcome::Short,
+            _ => Outcome::Done,
+        }
+    }
+}
+
 /// Counts of what was compared.
 #[derive(Default)]
 pub struct Coverage {
     answers: BTreeMap<(Call, Outcome), u64>,
+    long_titles: BTreeMap<Outcome, u64>,
     returns: BTreeMap<(u64, u64), u64>,
     faults: [u64; 11],
     replayed: u64,
@@ -34,11 +47,15 @@ pub struct Coverage {
 }
 
 impl Coverage {
-    /// Counts a call with its answer; of an accepted intake the orders' faults
-    /// too, as they stand in the book after it.
+    /// Counts a call with its answer, and apart a transfer whose title has a
+    /// long date; of an accepted intake the orders' faults too, as they stand
+    /// in the book after it.
     pub fn note(&mut self, call: &reference::Call, answer: &Answer, after: Option<&Book>) {
         self.note_answer(kind(call), answer);
         match (call, answer) {
+            (reference::Call::Transfer { title, .. }, _) if has_long_date(title) => {
+                *self.long_titles.entry(Outcome::of(answer)).or_default() += 1;
+            }
             (reference::Call::Return { route, money, .. }, Answer::Returned { .. }) => {
                 *self.returns.entry((*route, *money)).or_default() += 1;
             }
@@ -56,11 +73,7 @@ impl Coverage {
 
     /// Counts an answer of a kind of call.
     pub fn note_answer(&mut self, call: Call, answer: &Answer) {
-        let outcome = match answer {
-            Answer::Refused(number) => Outcome::Refused(u64::from(*number)),
-            Answer::Short { .. } => Outcome::Short,
-            _ => Outcome::Done,
-        };
+        let outcome = Outcome::of(answer);
         *self.answers.entry((call, outcome)).or_default() += 1;
     }
 
@@ -136,6 +149,11 @@ impl Coverage {
                 }
             }
         }
+        for outcome in Coverage::outcomes(Call::Transfer) {
+            if !self.long_titles.contains_key(&outcome) {
+                missing.push(format!("transfer, long title {outcome}"));
+            }
+        }
         for way in Coverage::ways() {
             if !self.returns.contains_key(&way) {
                 missing.push(format!("return by {}", way_name(way)));
@@ -181,6 +199,12 @@ impl fmt::Display for Coverage {
             let outcomes = Coverage::outcomes(call);
             write_row(f, &call.to_string(), outcomes.iter().map(cell))?;
         }
+        let long = |outcome: &Outcome| self.long_titles.get(outcome).unwrap_or(&0);
+        let outcomes = Coverage::outcomes(Call::Transfer);
+        let cells = outcomes
+            .iter()
+            .map(|outcome| format!("{outcome}: {}", long(outcome)));
+        write_row(f, "long titles", cells)?;
         let refused = self.refused_but_at_intake();
         let cells = refused
             .iter()

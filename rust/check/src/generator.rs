@@ -4,12 +4,12 @@
 
 use crate::draft::Draft;
 use crate::lendings;
-use crate::naming::{position_named, title, MONEYS};
+use crate::naming::{dated_title, long_title, nearly_long_dates, position_named, title, MONEYS};
 use crate::numbers::Numbers;
 use crate::orders::{good_draft, spoil_byte, spoilt_intake};
 use crate::probe;
 use crate::sheet::Lending;
-use reference::{Book, Call, Money, Shipment, Stage, State, MOST_SUM};
+use reference::{Book, Call, Money, Name, Shipment, Stage, State, MOST_SUM};
 
 /// What the shipments of an ordinary list are called: near one another, and of
 /// both lengths at which an identifier ends.
@@ -149,7 +149,7 @@ impl Generator {
             _ => missing,
         };
         Call::Transfer {
-            title: title(&shipment.name, money),
+            title: self.title(&shipment.name, money),
             amount,
         }
     }
@@ -158,8 +158,17 @@ impl Generator {
     fn transfer(&mut self, shipment: &Shipment, most: u64) -> Call {
         let money = self.numbers.pick(&MONEYS);
         Call::Transfer {
-            title: title(&shipment.name, money),
+            title: self.title(&shipment.name, money),
             amount: 1 + self.numbers.any() % most,
+        }
+    }
+
+    /// The title of a transfer for a shipment; one in four has a long date.
+    fn title(&mut self, name: &Name, money: Money) -> Vec<u8> {
+        if self.numbers.one_in(4) {
+            long_title(name, money)
+        } else {
+            title(name, money)
         }
     }
 
@@ -249,16 +258,43 @@ impl Generator {
         self.numbers.any() % limit
     }
 
+    /// The name of a shipment of the book, or one that is hardly there.
+    fn wild_name(&mut self, book: &Book) -> Name {
+        let place = self.numbers.below(book.shipments.len() + 1);
+        match book.shipments.get(place) {
+            Some(shipment) => shipment.name.clone(),
+            None => Name {
+                identifier: b"ZS1".to_vec(),
+                date: 20_201_007,
+                payment: b'A',
+                kind: 0,
+            },
+        }
+    }
+
+    /// A good title, one whose date is nearly a long one, or one with any byte
+    /// spoilt.
+    fn wild_title(&mut self, book: &Book) -> Vec<u8> {
+        let name = self.wild_name(book);
+        let money = self.numbers.pick(&MONEYS);
+        match self.numbers.below(4) {
+            0 => {
+                let date = self.numbers.pick(&nearly_long_dates(&name));
+                dated_title(&name, &date, money)
+            }
+            1 => {
+                let both = [title(&name, money), long_title(&name, money)];
+                let mut spoilt = self.numbers.pick(&both);
+                spoil_byte(&mut spoilt, &mut self.numbers);
+                spoilt
+            }
+            _ => self.title(&name, money),
+        }
+    }
+
     /// A transfer whose title or amount may be anything.
     fn wild_transfer(&mut self, book: &Book) -> Call {
-        let place = self.numbers.below(book.shipments.len() + 1);
-        let mut title = match book.shipments.get(place) {
-            Some(shipment) => title(&shipment.name, self.numbers.pick(&MONEYS)),
-            None => b"EPEZZS1-201007-A-0-K".to_vec(),
-        };
-        if self.numbers.one_in(3) {
-            spoil_byte(&mut title, &mut self.numbers);
-        }
+        let title = self.wild_title(book);
         let mut amount = self.numbers.any() % 100_000;
         if self.numbers.one_in(2) {
             let edges = [1, 350, MOST_SUM - 1, MOST_SUM, MOST_SUM + 1, 0, u64::MAX];

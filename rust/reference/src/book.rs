@@ -605,6 +605,7 @@ impl Book {
     /// "Transfer (title, amount)"
     fn transfer(&mut self, title: &[u8], amount: u64) -> Result<Answer, u32> {
         // "title is a shipment name in the form above, then `-K` or `-O`? 11"
+        // (its date of six digits or, by document 02's A1, of eight)
         let (name, money) = read_title(title)?;
         // "Amount 1 to 9,999,999,999,999? 12"
         if !(1..=MOST_SUM).contains(&amount) {

@@ -1,9 +1,10 @@
 //! A plain reference implementation of the settlement book for EPE shipments.
 //!
-//! Written from document 01 (the law), document 00 (the demands), the decided
-//! readings and source document 003 sections 3, 5.1 and 6; from nothing else.
-//! It is meant to be read beside document 01: every question carries that
-//! document's words and number, in that document's order.
+//! Written from document 01 (the law), document 02 (its changes, of which A1 is
+//! in), document 00 (the demands), the decided readings and source document 003
+//! sections 3, 5.1 and 6; from nothing else. It is meant to be read beside
+//! document 01: every question carries that document's words and number, in
+//! that document's order. Words of document 02 are marked as such.
 //!
 //! - [`calendar`]: real dates and differences in days.
 //! - [`text`]: digits, letters, amounts, sums, identifiers.

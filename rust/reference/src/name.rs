@@ -1,5 +1,6 @@
 //! "The name is `EPEZ` + identifier, yymmdd, A or B, kind 0 to 4, joined by
-//! hyphens." And the title of a transfer, which is such a name and a money.
+//! hyphens." And the title of a transfer, which is such a name, perhaps with
+//! its date as 20yymmdd, and a money.
 
 use crate::book::Money;
 use crate::calendar::is_real_date;
@@ -48,7 +49,8 @@ pub fn read_name(name: &[u8]) -> Result<Name, u32> {
     if !is_identifier(identifier) {
         return Err(13);
     }
-    // "Second part six digits, a real date 20yymmdd? 016"
+    // "Second part six digits, a real date 20yymmdd? 016" (document 02, A1:
+    // "File names keep six.")
     if !are_digits(parts[1], 6, 6) || !is_real_date(20_000_000 + number(parts[1])) {
         return Err(16);
     }
@@ -68,8 +70,24 @@ pub fn read_name(name: &[u8]) -> Result<Name, u32> {
     })
 }
 
-/// "title is a shipment name in the form above, then `-K` or `-O`? 11"
+/// "From now on a title's second part may also have eight digits: `20` and a
+/// name's six mean what the six alone would, and another eight is 11."
+/// (document 02, A1)
+///
+/// So a second part of eight bytes that begin `20` loses these two. Whether the
+/// other six are a name's is for 016 to say, which says no to any other eight.
+fn short(title: &[u8]) -> Vec<u8> {
+    let mut parts: Vec<&[u8]> = title.split(|byte| *byte == b'-').collect();
+    if parts.len() > 1 && parts[1].len() == 8 && parts[1].starts_with(b"20") {
+        parts[1] = &parts[1][2..];
+    }
+    parts.join(&b'-')
+}
+
+/// "title is a shipment name in the form above, then `-K` or `-O`? 11", asked
+/// of the shortened title.
 pub fn read_title(title: &[u8]) -> Result<(Name, Money), u32> {
+    let title = short(title);
     let (name, money) = if let Some(name) = title.strip_suffix(b"-K") {
         (name, Money::K)
     } else if let Some(name) = title.strip_suffix(b"-O") {

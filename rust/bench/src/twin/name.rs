@@ -19,15 +19,20 @@ pub struct Name<'a> {
     pub kind: u8,
 }
 
-/// Asks a name the questions 003 to 022.
-pub fn read_name(name: &[u8]) -> Result<Name<'_>, Refusal> {
+/// The four parts of a name (003).
+fn four_parts(name: &[u8]) -> Result<[&[u8]; 4], Refusal> {
     let mut parts = name.split(|byte| *byte == b'-');
     let mut next = || parts.next();
-    let (Some(first), Some(digits), Some(payment), Some(kind), None) =
-        (next(), next(), next(), next(), next())
-    else {
-        return Err(3);
-    };
+    match (next(), next(), next(), next(), next()) {
+        (Some(first), Some(digits), Some(payment), Some(kind), None) => {
+            Ok([first, digits, payment, kind])
+        }
+        _ => Err(3),
+    }
+}
+
+/// Asks the parts of a name the questions 007 to 022.
+fn read_parts([first, digits, payment, kind]: [&[u8]; 4]) -> Result<Name<'_>, Refusal> {
     let identifier = first.strip_prefix(b"EPE").ok_or(7u64)?;
     let identifier = identifier.strip_prefix(b"Z").ok_or(10u64)?;
     if !is_identifier(identifier) {
@@ -53,12 +58,24 @@ pub fn read_name(name: &[u8]) -> Result<Name<'_>, Refusal> {
     })
 }
 
-/// The name and the money of a transfer's title.
+/// Asks a name the questions 003 to 022.
+pub fn read_name(name: &[u8]) -> Result<Name<'_>, Refusal> {
+    read_parts(four_parts(name)?)
+}
+
+/// The name and the money of a transfer's title, in which the date may have its
+/// century too.
 pub fn read_title(title: &[u8]) -> Result<(Name<'_>, Money), Refusal> {
     let (name, money) = match title {
         [name @ .., b'-', b'K'] => (name, Money::K),
         [name @ .., b'-', b'O'] => (name, Money::O),
         _ => return Err(11),
     };
-    Ok((read_name(name).map_err(|_| 11u64)?, money))
+    let [first, date, payment, kind] = four_parts(name).map_err(|_| 11u64)?;
+    let digits = match date {
+        [b'2', b'0', digits @ ..] if digits.len() == 6 => digits,
+        digits => digits,
+    };
+    let name = read_parts([first, digits, payment, kind]);
+    Ok((name.map_err(|_| 11u64)?, money))
 }

@@ -66,10 +66,16 @@ fn intake(dice: &mut Dice, rivals: &mut Rivals) -> Answer {
     rivals.make(Call::Intake(&profile, &file.name, &file.bytes))
 }
 
+/// The dates in titles: a shipment's, the same with its century, and neither.
+const DATES: [&str; 6] = [
+    "201007", "201007", "201007", "20201007", "19201007", "2020107",
+];
+
 /// Makes a random transfer.
 fn transfer(dice: &mut Dice, rivals: &mut Rivals) -> Answer {
     let (id, money) = (dice.one_of(&IDS), dice.one_of(&["K", "O"]));
-    let mut title = format!("EPEZ{id}-201007-A-0-{money}").into_bytes();
+    let date = dice.one_of(&DATES);
+    let mut title = format!("EPEZ{id}-{date}-A-0-{money}").into_bytes();
     if dice.below(5) == 0 {
         dice.spoil(&mut title);
     }

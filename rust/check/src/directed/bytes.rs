@@ -1,6 +1,7 @@
 //! Names and files changed byte by byte: every byte of ZS1's name, title and
-//! file replaced by every other, taken out or doubled, every file cut short,
-//! and every form of UTF-8 sequence.
+//! file replaced by every other, taken out or doubled, every title and file cut
+//! short, and every form of UTF-8 sequence; name and title also with the long
+//! date that only a title may have.
 
 use crate::coverage::Coverage;
 use crate::draft::{Draft, MARK};
@@ -12,7 +13,8 @@ pub fn check(coverage: &mut Coverage) {
     let mut run = Run::begin("names and files byte by byte".into(), 0, coverage);
     run.call(Draft::new("ZS2", &[100]).intake());
     let draft = Draft::zs1();
-    for name in changed(&draft.name()) {
+    let long = b"EPEZZS1-20201007-A-0";
+    for name in changed(&draft.name()).into_iter().chain(changed(long)) {
         run.attempt(&[draft.intake_as(name, draft.file())]);
     }
     for file in changed(&draft.file()).into_iter().chain(cut(&draft.file())) {
@@ -26,8 +28,10 @@ pub fn check(coverage: &mut Coverage) {
         run.attempt(&[draft.intake_as(draft.name(), file)]);
     }
     run.call(draft.intake());
-    for title in changed(b"EPEZZS1-201007-A-0-K") {
-        run.attempt(&[Call::Transfer { title, amount: 1 }]);
+    for good in ["EPEZZS1-201007-A-0-K", "EPEZZS1-20201007-A-0-K"].map(str::as_bytes) {
+        for title in changed(good).into_iter().chain(cut(good)) {
+            run.attempt(&[Call::Transfer { title, amount: 1 }]);
+        }
     }
     for identifier in changed(b"ZS1") {
         run.attempt(&[Call::Pair { identifier }]);

@@ -17,7 +17,11 @@ const TITLE_O: &str = "EPEZZS1-201007-A-0-O";
 
 /// Runs ZS1 and the card.
 pub fn check(coverage: &mut Coverage) {
-    zs1(coverage);
+    let [short, long] = ["201007", "20201007"].map(|date| zs1(date, coverage));
+    assert!(
+        short == long,
+        "long titles leave other bytes than short ones"
+    );
     surname(coverage);
     fees_left_empty(coverage);
     one_grosz_short(coverage);
@@ -42,17 +46,19 @@ fn expect_all(run: &mut Run, calls: Vec<(Call, Answer)>) {
     }
 }
 
-/// ZS1, lines 1 to 8; what has left by lines 6 and 8 is read off the sheet.
-fn zs1(coverage: &mut Coverage) {
-    let mut run = Run::begin("ZS1".into(), 0, coverage);
+/// ZS1, lines 1 to 8, with this date in its titles; what has left by lines 6 and
+/// 8 is read off the sheet. Gives the bytes of the book.
+fn zs1(date: &str, coverage: &mut Coverage) -> Vec<u8> {
+    let mut run = Run::begin(format!("ZS1, titles of {date}"), 0, coverage);
+    let [title_k, title_o] = ["K", "O"].map(|money| format!("EPEZZS1-{date}-A-0-{money}"));
     let lines_1_to_6 = vec![
         (Draft::zs1().intake(), accepted(3, 1)),
-        (transfer(TITLE_K, 17_549), Answer::Done),
-        (transfer(TITLE_O, 1_050), Answer::Done),
+        (transfer(&title_k, 17_549), Answer::Done),
+        (transfer(&title_o, 1_050), Answer::Done),
         (pair("ZS1"), Answer::Refused(18)),
         (go_ahead("ZS1"), Answer::Done),
         (pair("ZS1"), Answer::Short { k: 1, o: 0 }),
-        (transfer(TITLE_K, 101), Answer::Done),
+        (transfer(&title_k, 101), Answer::Done),
         (pair("ZS1"), Answer::Paired),
         (give_back("ZS1", Zwr, K), returned(100, 0)),
         (give_back("ZS1", Zwr, K), Answer::Refused(23)),
@@ -72,6 +78,7 @@ fn zs1(coverage: &mut Coverage) {
     expect_all(&mut run, line_7);
     let sums = [17_650, 0, 0, 17_650, 1_050, 0, 0, 1_050];
     expect_rows(&mut run, &[("ZS1", sums)]);
+    run.bytes().to_vec()
 }
 
 /// "Load a surname of 31 Polish letters."

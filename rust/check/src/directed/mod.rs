@@ -1,6 +1,6 @@
 //! Cases taken from the papers one by one: every question and every two, every
-//! boundary, every refusal, full books, sheets, journals, ZS1 and the field engineer's
-//! card.
+//! boundary, every refusal, long titles, full books, sheets, journals, ZS1 and
+//! the field engineer's card.
 
 mod bytes;
 mod card;
@@ -11,6 +11,7 @@ mod questions;
 mod refusals;
 mod replay;
 mod sheet;
+mod titles;
 
 use crate::coverage::Coverage;
 
@@ -21,6 +22,7 @@ pub fn check(coverage: &mut Coverage) {
     dates::check(coverage);
     fields::check(coverage);
     refusals::check(coverage);
+    titles::check(coverage);
     full::check(coverage);
     sheet::check(coverage);
     replay::check(coverage);

@@ -35,7 +35,7 @@ fn transfers() -> Vec<(u32, Call)> {
         (11, transfer("", 0)),
         (11, transfer("EPEZOK1-201007-A-0", 1)),
         (11, transfer("EPEZOK1-201007-A-0-k", 0)),
-        (11, transfer("EPEZOK1-20201007-A-0-K", 1)),
+        (11, transfer("EPEZOK1-19201007-A-0-K", 1)),
         (11, transfer("EPEZOK1-200931-A-0-K", 1)),
         (11, transfer("EPEZOK1-201007-A-0-K-K", 1)),
         (12, transfer(known, 0)),

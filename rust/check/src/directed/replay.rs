@@ -47,16 +47,16 @@ pub fn check(coverage: &mut Coverage) {
     no_empty_book(&journal, coverage);
 }
 
-/// Calls that lead somewhere, each of the ten among them.
+/// Calls that lead somewhere, each of the ten among them, one with a long
+/// title.
 fn every_call() -> Vec<Call> {
-    let title = |money: &str| format!("EPEZZS1-201007-A-0-{money}");
     vec![
         Draft::zs1().intake(),
-        transfer(&title("K"), 17_549),
-        transfer(&title("O"), 1_050),
+        transfer("EPEZZS1-201007-A-0-K", 17_549),
+        transfer("EPEZZS1-201007-A-0-O", 1_050),
         go_ahead("ZS1"),
         pair("ZS1"),
-        transfer(&title("K"), 101),
+        transfer("EPEZZS1-20201007-A-0-K", 101),
         pair("ZS1"),
         post("ZS1", 1),
         pay("ZS1", 1),

@@ -12,7 +12,7 @@ use crate::calls::{close, give_back_by_number, go_ahead, pair};
 use crate::coverage::Coverage;
 use crate::draft::Draft;
 use crate::lendings;
-use crate::naming::{title, MONEYS};
+use crate::naming::{long_title, title, MONEYS};
 use crate::probe::deeds_on;
 use crate::run::Run;
 use crate::stages;
@@ -36,18 +36,19 @@ pub fn check(seed: u64, coverage: &mut Coverage) {
 
 /// Every call, for the shipment at a place of a book: an intake that would be
 /// accepted and one with a bad profile, a transfer, and each other call; with
-/// its orders, the routes and the moneys in turn.
+/// its orders, the routes, the moneys and both forms of a title in turn.
 fn every_call(book: &Book, place: usize, turn: usize) -> Vec<Call> {
     let shipment = &book.shipments[place];
     let identifier = &shipment.name.identifier;
     let id = String::from_utf8_lossy(identifier);
+    let titled = [title, long_title][turn / 2 % 2];
     let mut spoilt = Draft::new("XX1", &[100]);
     spoilt.profile.fields = 33;
     let mut calls = vec![
         Draft::new("XX1", &[100]).intake(),
         spoilt.intake(),
         Call::Transfer {
-            title: title(&shipment.name, MONEYS[turn % 2]),
+            title: titled(&shipment.name, MONEYS[turn % 2]),
             amount: 1,
         },
         go_ahead(&id),

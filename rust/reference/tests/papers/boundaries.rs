@@ -164,11 +164,33 @@ fn names_and_titles_of_source_document_003() {
     );
     assert_eq!(
         read_title(b"EPEZZS1234567890-110317-A-0-O"),
-        Ok((name, Money::O))
+        Ok((name.clone(), Money::O))
     );
-    // "Taking the eight-digit date in section 3.5.1's sample title: 5.1.3.1
-    // has six, and decides."
-    assert_eq!(read_title(b"EPEZZS1234567890-20110317-A-0-K"), Err(11));
+    // The sample of section 3.5.1, which document 02 lets in; 5.1.3.1 has six
+    // digits in a name, and still decides there.
+    assert_eq!(
+        read_title(b"EPEZZS1234567890-20110317-A-0-K"),
+        Ok((name, Money::K))
+    );
+    assert_eq!(read_name(b"EPEZZS1234567890-20110317-A-0"), Err(16));
+}
+
+#[test]
+fn long_dates_in_titles() {
+    for (six, eight) in [
+        ("201007", "20201007"),
+        ("000229", "20000229"),
+        ("000101", "20000101"),
+        ("991231", "20991231"),
+        ("200101", "20200101"),
+    ] {
+        for ending in ["A-0-K", "B-4-O"] {
+            let [short, long] = [six, eight].map(|date| format!("EPEZZS1-{date}-{ending}"));
+            let read = read_title(short.as_bytes());
+            assert!(read.is_ok(), "{short}");
+            assert_eq!(read_title(long.as_bytes()), read, "{long}");
+        }
+    }
 }
 
 #[test]

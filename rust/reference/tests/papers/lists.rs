@@ -46,8 +46,9 @@ fn some_call(numbers: &mut Numbers) -> (usize, Call) {
         }
         1..=4 => {
             let money = ["K", "O"][numbers.below(2) as usize];
+            let date = ["201007", "20201007"][numbers.below(2) as usize];
             Call::Transfer {
-                title: format!("EPEZ{name}-201007-A-0-{money}").into_bytes(),
+                title: format!("EPEZ{name}-{date}-A-0-{money}").into_bytes(),
                 amount: numbers.below(12_000),
             }
         }

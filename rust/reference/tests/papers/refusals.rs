@@ -158,7 +158,6 @@ fn refusal_11_title() {
         " EPEZZS1-201007-A-0-K",
         "EPEZZS1-201007-A-0-K-K",
         "EPEZZS1-201007-A-0-KO",
-        "EPEZZS1-20201007-A-0-K",
         "EPEZZS1-200931-A-0-K",
         "EPEZZS-201007-A-0-K",
         "EPEPZS1-201007-A-0-K",
@@ -171,6 +170,77 @@ fn refusal_11_title() {
         assert_eq!(transfer(&mut book, title, 0), refused(11), "{title}");
         assert_eq!(transfer(&mut book, title, 1), refused(11), "{title}");
     }
+}
+
+/// Titles that are nearly long ones, or long ones of nearly a shipment.
+const NEARLY_LONG: &[&str] = &[
+    // "another eight is 11"
+    "EPEZZS1-19201007-A-0-K",
+    "EPEZZS1-21201007-A-0-K",
+    "EPEZZS1-02201007-A-0-K",
+    "EPEZZS1-20200230-A-0-K",
+    "EPEZZS1-20210229-A-0-K",
+    "EPEZZS1-20201307-A-0-K",
+    "EPEZZS1-2020100x-A-0-K",
+    "EPEZZS1-20x01007-A-0-K",
+    "EPEZZS1-20-201007-A-0-K",
+    "EPEZZS1-2020-1007-A-0-K",
+    // Seven, nine, ten and fourteen digits, and a long date cut to six.
+    "EPEZZS1-2020107-A-0-K",
+    "EPEZZS1-2201007-A-0-K",
+    "EPEZZS1-020201007-A-0-K",
+    "EPEZZS1-202010070-A-0-K",
+    "EPEZZS1-2020201007-A-0-K",
+    "EPEZZS1-20201007120000-A-0-K",
+    "EPEZZS1-202010-A-0-K",
+    // A good long date in a title that is spoilt elsewhere.
+    "20201007-A-0-K",
+    "-20201007-A-0-K",
+    "EPEZZS1-20201007",
+    "EPEZZS1-20201007-K",
+    "EPEZZS1-20201007-A-0",
+    "EPEZZS1-20201007-A-0-k",
+    "EPEZZS1-20201007-A-0-K-K",
+    "EPEZZS1-20201007-C-0-K",
+    "EPEZZS1-20201007-A-5-K",
+    "EPEZZS1--20201007-A-0-K",
+    "EPEZZS1-20201007--A-0-K",
+    "EP-EZZS1-20201007-A-0-K",
+    "EPEZZS1-A-20201007-0-K",
+];
+
+#[test]
+fn refusal_11_long_title() {
+    let mut book = zs1_waiting();
+    for title in NEARLY_LONG {
+        assert_eq!(transfer(&mut book, title, 0), refused(11), "{title}");
+        assert_eq!(transfer(&mut book, title, 1), refused(11), "{title}");
+    }
+}
+
+#[test]
+fn a_long_title_is_the_short_one() {
+    let mut book = zs1_waiting();
+    let long = "EPEZZS1-20201007-A-0-O";
+    for amount in [0, CAP + 1] {
+        assert_eq!(transfer(&mut book, long, amount), refused(12));
+    }
+    for title in [
+        "EPEZZS2-20201007-A-0-O",
+        "EPEZZS1-20201008-A-0-O",
+        "EPEZZS1-20201007-B-0-O",
+        "EPEZZS1-20201007-A-1-O",
+    ] {
+        assert_eq!(transfer(&mut book, title, 0), refused(12), "{title}");
+        assert_eq!(transfer(&mut book, title, 1), refused(13), "{title}");
+    }
+    // "money booked through a long title is counted like any other"
+    assert_eq!(transfer(&mut book, long, 1_049), Answer::Done);
+    assert_eq!(transfer(&mut book, TITLE_O, 1), Answer::Done);
+    assert_eq!(book.shipments[0].accepted_o, 1_050);
+    assert_eq!(book.shipments[0].accepted_k, 0);
+    assert_eq!(transfer(&mut book, long, CAP - 1_049), refused(14));
+    assert_eq!(transfer(&mut book, long, CAP - 1_050), Answer::Done);
 }
 
 #[test]
