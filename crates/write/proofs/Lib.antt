@@ -1,0 +1,9 @@
+-- Laws of what is written.
+pub mod Spelling
+pub mod Putting
+pub mod FourPieces
+pub mod ReadingBack
+pub mod WellFormed
+pub mod Plain
+pub mod FullLines
+pub mod Answers

@@ -1,0 +1,4 @@
+-- In the order in which to read them.
+pub mod Spelled
+pub mod Files
+pub mod Written
