@@ -3,6 +3,7 @@ pub mod RowWalks
 pub mod RowsInTurn
 pub mod Finding
 pub mod PlaceInBook
+pub mod FoundInBook
 pub mod UnknownIdent
 pub mod PlaceOfName
 pub mod ShipmentChanged

@@ -9,6 +9,7 @@ pub mod ActsConserve
 pub mod Leaving
 pub mod Finding
 pub mod StaysSound
+pub mod FoundSound
 pub mod StepsConserve
 pub mod Conserved
 pub mod NeverTwice

@@ -44,12 +44,12 @@ use Rattle.model.proofs.SoundParts.{halves, MoneyInOrder, InOrder, in-o
 use Rattle.model.proofs.ActsKeepSound.{Kept, transferred-kept, acted-kept}
 
 -- The parts of a sound book, and of one with a first shipment.
-record BookInOrder (book : Book) : Type 0 where
-  few : length book ≤ mostShipments
-  rows-fit : rowsIn book ≤ mostRows
-  shipments : shipmentsSound book ≡ true
+pub record BookInOrder (book : Book) : Type 0 where
+  pub few : length book ≤ mostShipments
+  pub rows-fit : rowsIn book ≤ mostRows
+  pub shipments : shipmentsSound book ≡ true
 
-book-in-order : (book : Book) → sound book ≡ true → BookInOrder book
+pub book-in-order : (book : Book) → sound book ≡ true → BookInOrder book
 unfolding sound
 book-in-order book h = record {
   few = leb-true (length book) mostShipments (search halves);
@@ -61,12 +61,12 @@ book-sound : (book : Book) → BookInOrder book → sound book ≡ true
 unfolding sound
 book-sound book h = both-yes _ _ (le-leb (length book) mostShipments (h .few)) (both-yes _ _ (le-leb (rowsIn book) mostRows (h .rows-fit)) (h .shipments))
 
-record FirstInOrder (s : Shipment) (book : Book) : Type 0 where
-  first : shipmentSound s ≡ true
-  known-once : isUnknown (s .agreed .name .ident) book ≡ true
-  rest : shipmentsSound book ≡ true
+pub record FirstInOrder (s : Shipment) (book : Book) : Type 0 where
+  pub first : shipmentSound s ≡ true
+  pub known-once : isUnknown (s .agreed .name .ident) book ≡ true
+  pub rest : shipmentsSound book ≡ true
 
-first-in-order : (s : Shipment) (book : Book) → shipmentsSound (s ∷ book) ≡ true → FirstInOrder s book
+pub first-in-order : (s : Shipment) (book : Book) → shipmentsSound (s ∷ book) ≡ true → FirstInOrder s book
 unfolding shipmentsSound
 first-in-order s book h = record { first = search halves; known-once = search halves; rest = search halves }
 
