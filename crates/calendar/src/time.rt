@@ -14,7 +14,7 @@ pub fn is_time(s: &[u8]) -> bool
 }
 
 // Does the number write a time of day, hhmmss?
-fn is_clock_time(n: u64) -> bool
+pub fn is_clock_time(n: u64) -> bool
     ensures { λ r. ⌜ r ≡ clockTime n ⌝ }
 {
     n / 10000 <= 23 && (n / 100 % 100 <= 59 && n % 100 <= 59)

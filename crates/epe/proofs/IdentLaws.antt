@@ -27,7 +27,7 @@ same-is-equal a b = (
   λ equal. rw equal (both-yes (eqb (b .len) (b .len)) (same (b .bytes) (b .bytes)) (eq-eqb (b .len) (b .len) refl) (same-self (b .bytes))),
 )
 
-identifier-fits : (s : List ℕ) → identifier s ≡ true → length s ≤ 17
+pub identifier-fits : (s : List ℕ) → identifier s ≡ true → length s ≤ 17
 unfolding identifier
 identifier-fits s h =
     let n = length s in
