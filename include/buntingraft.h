@@ -20,12 +20,14 @@
  *   book   At least buntingraft_book_bytes() bytes. The whole state of a book is in them: they need no alignment, hold no
  *          pointer, and may be copied, written to disk and lent again elsewhere. Bytes behind that length stay as they are.
  *          A fresh book is made by buntingraft_make_empty.
- *   name, file, title, id, journal
+ *   name, file, title, id, own, source, journal
  *          Bytes that are only read, with no terminating zero.
+ *   output Bytes that a report is written into.
+ *   codes  Numbers of 64 bits that are only read.
  *
- * Each is a pointer and a number of bytes. The pointer is not null, even where the number is 0, and all those bytes can be
- * read; the book's can be written too. The buffers of one call do not overlap, and nothing else writes to them while it runs.
- * Nothing is kept when a call returns.
+ * Each is a pointer and a number of bytes, or of codes. The pointer is not null, even where the number is 0, and all of it can
+ * be read; book and output can be written too. The buffers of one call do not overlap, and nothing else writes to them while
+ * it runs. Nothing is kept when a call returns.
  *
  * That is all a caller owes. Every call answers, whatever the bytes and numbers are. The library allocates nothing, has no
  * state of its own, so calls on different books may run at the same time, and takes less than 32 KiB of stack: the project's
@@ -304,6 +306,38 @@ struct buntingraft_totals {
  */
 struct buntingraft_reply buntingraft_sheet(const uint8_t *book, size_t book_length, struct buntingraft_row *table, size_t rows,
                                            struct buntingraft_totals *totals);
+
+/*
+ * The two report files that the insurer takes. Each is written whole into `output`: byte mark, header, records, and no CR LF
+ * after the last line. Done: the number of bytes written, 0. The bytes of the output behind them stay as they are, and after a
+ * refusal all of them do. `own` is the report's identifier, `created` when it was created, as the number yyyymmddhhmmss.
+ */
+
+/*
+ * Writes RKF, the report on an order file: `source` is that file's identifier, `refusal` the number with which an intake
+ * refused it, or 0 where it was accepted. It takes at most 83 bytes.
+ *
+ *    31  Are both identifiers in form, is the creation time a real date and time, and is the refusal 0 or 100 to 307?
+ *    30  Is the output long enough?
+ */
+struct buntingraft_reply buntingraft_write_rkf(const uint8_t *own, size_t own_length, uint64_t created,
+                                               const uint8_t *source, size_t source_length, uint64_t refusal,
+                                               uint8_t *output, size_t output_length);
+
+/*
+ * Writes OPE, the report on the faulty orders of the shipment `id`, in any stage: a record to an order, rising. `codes` are the
+ * published codes of the ten faults, fault 1's first; an entry that no order needs may be anything, or missing at the end. It
+ * takes at most 32,677 bytes. The book is only read.
+ *
+ *    10  Is the book's memory long enough, and a sound book?
+ *    13  Is the identifier in the book?
+ *    31  Is the own identifier in form, is the creation time a real date and time, and has each fault of the shipment a code
+ *        of 308 to 336?
+ *    30  Is the output long enough?
+ */
+struct buntingraft_reply buntingraft_write_ope(const uint8_t *book, size_t book_length, const uint8_t *id, size_t id_length,
+                                               const uint8_t *own, size_t own_length, uint64_t created,
+                                               const uint64_t *codes, size_t codes_count, uint8_t *output, size_t output_length);
 
 /*
  * Makes every call of a journal in an empty book, one after the other, and tells every reply: the calls do what the same calls

@@ -21,6 +21,9 @@
 #define SHIPMENTS 32
 #define CALLS 4
 
+/* The OPE of 204 faulty orders, every tenth: a header of 55 bytes, and records of 9 and the digits of both numbers. */
+#define OPE_LENGTH (55 + 204 * 9 + (9 + 90 * 2 + 105 * 3) + (9 * 2 + 90 * 3 + 105 * 4))
+
 /* The bytes of a literal and their number. */
 #define BYTES(literal) (const uint8_t *)(literal), sizeof(literal) - 1
 
@@ -41,6 +44,8 @@ static struct buntingraft_totals totals;
 static uint8_t journal[sizeof file + 1024];
 static size_t journal_length;
 static struct buntingraft_reply answers[CALLS];
+static const uint64_t codes[10] = {308, 309, 310, 311, 312, 313, 314, 315, 316, 317};
+static uint8_t output[32677];
 
 /* What the next call is given, and what it replied. */
 static uint64_t amount, order, route, money;
@@ -115,6 +120,12 @@ static void mark_undelivered(void) { reply = buntingraft_mark_undelivered(BOOK, 
 static void withdraw(void) { reply = buntingraft_withdraw(BOOK, ID, order); }
 static void return_money(void) { reply = buntingraft_return(BOOK, ID, route, money); }
 static void sheet(void) { reply = buntingraft_sheet(BOOK, table, SHIPMENTS, &totals); }
+static void write_rkf(void) {
+    reply = buntingraft_write_rkf(BYTES("PP0000000001"), 20201007130000, ID, 103, output, sizeof output);
+}
+static void write_ope(void) {
+    reply = buntingraft_write_ope(BOOK, ID, BYTES("PP0000000003"), 20201007131500, codes, 10, output, sizeof output);
+}
 static void replay(void) { reply = buntingraft_replay(BOOK, journal, journal_length, answers, CALLS); }
 static void book_bytes(void) { reply.first = buntingraft_book_bytes(); }
 
@@ -180,6 +191,8 @@ static void on_one_shipment(void) {
     expect("make_empty", BUNTINGRAFT_DONE, 0, make_empty);
     expect("intake of 2,048 orders", BUNTINGRAFT_DONE, ORDERS, intake);
     expect("intake of them again", BUNTINGRAFT_REFUSED, 101, intake);
+    expect("write_rkf", BUNTINGRAFT_DONE, 64, write_rkf);
+    expect("write_ope of 204 orders", BUNTINGRAFT_DONE, OPE_LENGTH, write_ope);
     amount = 100 * ORDERS + 1;
     expect("transfer of K", BUNTINGRAFT_DONE, 0, transfer_amounts);
     expect("go_ahead", BUNTINGRAFT_DONE, 0, go_ahead);

@@ -1,10 +1,12 @@
 /*
  * Document 01's worked shipment ZS1, run through libbuntingraft.a from C. A line for each call, with its reply; the number
- * before a call is its line in document 01's table, and 0 is what comes before it. Fails where a reply is not the table's.
+ * before a call is its line in document 01's table, and 0 is what comes before it: the intake, and the two report files on it.
+ * Fails where a reply is not the table's, or a report is not as it must be.
  */
 #include <inttypes.h>
 #include <stdio.h>
 #include <stdlib.h>
+#include <string.h>
 
 #include "buntingraft.h"
 
@@ -16,6 +18,9 @@
 #define BOOK book, book_length
 #define ID BYTES("ZS1")
 
+/* The byte mark with which the insurer's files begin. */
+#define MARK "\xEF\xBB\xBF"
+
 static int replies_wrong = 0;
 
 /* Prints the reply of a call, and holds it to the table's. */
@@ -25,6 +30,34 @@ static void expect(const char *call, uint64_t status, uint64_t first, uint64_t s
     int right = reply.status == status && reply.first == first && reply.second == second;
     printf("%-24s %-7s %6" PRIu64 " %6" PRIu64 "%s\n", call, word, reply.first, reply.second, right ? "" : "   not the table's");
     replies_wrong += !right;
+}
+
+/* Holds the file that a call wrote to the one that it must be. */
+static void hold(const uint8_t *written, struct buntingraft_reply reply, const uint8_t *file, size_t length) {
+    int right = reply.status == BUNTINGRAFT_DONE && reply.first == length && memcmp(written, file, length) == 0;
+    if (!right) {
+        printf("%-24s the next file is not as it must be\n", "");
+    }
+    replies_wrong += !right;
+}
+
+/* Writes the report on ZS1's order file, which was accepted. */
+static struct buntingraft_reply rkf(void) {
+    uint8_t output[83]; /* no RKF is longer */
+    struct buntingraft_reply reply =
+        buntingraft_write_rkf(BYTES("PP0000000001"), 20201007130000, ID, 0, output, sizeof output);
+    hold(output, reply, BYTES(MARK "1|PP|RKF|1.0|PP0000000001|20201007130000|EPE|ZS1|1"));
+    return reply;
+}
+
+/* Writes the report on ZS1's faulty orders, with a code for each fault. */
+static struct buntingraft_reply ope(const uint8_t *book, size_t book_length) {
+    static const uint64_t codes[10] = {308, 309, 310, 311, 312, 313, 314, 315, 316, 317};
+    static uint8_t output[32677]; /* no OPE is longer */
+    struct buntingraft_reply reply =
+        buntingraft_write_ope(BOOK, ID, BYTES("PP0000000003"), 20201007131500, codes, 10, output, sizeof output);
+    hold(output, reply, BYTES(MARK "1|PP|OPE|1.0|PP0000000003|20201007131500|EPE|ZS1|1\r\n2|1|2|308"));
+    return reply;
 }
 
 /* Prints the balance sheet of a book with one shipment, and holds it to the table: all has left, nothing is held or free. */
@@ -49,6 +82,8 @@ static void run(uint8_t *book, size_t book_length, const uint8_t *file, size_t f
 
     expect("0. empty book", done, 0, 0, buntingraft_make_empty(BOOK));
     expect("0. intake", done, 3, 1, buntingraft_intake(BOOK, profile, BYTES(NAME), file, file_length));
+    expect("0. RKF", done, 53, 0, rkf());
+    expect("0. OPE", done, 64, 0, ope(BOOK));
 
     expect("1. transfer of K 17549", done, 0, 0, buntingraft_transfer(BOOK, BYTES(NAME "-K"), 17549));
     expect("1. transfer of O 1050", done, 0, 0, buntingraft_transfer(BOOK, BYTES(NAME "-O"), 1050));

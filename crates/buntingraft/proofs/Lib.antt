@@ -1,1 +1,2 @@
 pub mod Exporting
+pub mod Reporting

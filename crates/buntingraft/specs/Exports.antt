@@ -1,5 +1,5 @@
 -- What the exports ensure: the reply is the call's answer in three numbers (`replyOf`), and the memory is as the call's own promise has it (`Does`).
--- `Plays` says both of a call; making an empty book, a return and a sheet have a record here.
+-- `Plays` says both of a call; making an empty book, a return, a sheet and a report have a record here.
 use mathlib.Core.Path.{_≡_}
 use mathlib.Core.Bool.{true, false}
 use mathlib.Core.List.{List}
@@ -12,6 +12,9 @@ use Rattle.book.specs.NoReturn.{noReturn}
 use Rattle.book.specs.Numbers.{areKnown, routeOf, moneyOf}
 use Rattle.book.specs.Reply.{replyOf, doneWith, refusedWith, Plays}
 use Rattle.book.specs.declared.reply.Reply.{Reply}
+use Rattle.write.specs.Written.{Wrote}
+use Rattle.write.specs.declared.Writing.{Writing}
+use Rattle.write.specs.declared.Writing.the-variants as writing
 use Rattle.sheet.specs.Sheet.{sheetOf}
 use Rattle.sheet.specs.declared.Sheeting.{Sheeting}
 use Rattle.sheet.specs.declared.Sheeting.the-variants.{Filled, Refused}
@@ -38,3 +41,12 @@ pub record Sheets (book : List ℕ) (table : List SheetRow) (totals : Totals) (r
   pub is-reply : reply ≡ replyToSheet (sheetOf (readBook book) table totals .answer)
   pub rows : table′ ≡ sheetOf (readBook book) table totals .table
   pub sums : totals′ ≡ sheetOf (readBook book) table totals .totals
+
+-- A report answers the number of bytes written, or a refusal. The output is as it leaves it.
+unfoldable pub replyToWriting : Writing → Reply
+replyToWriting (writing.Written length) = doneWith length 0
+replyToWriting (writing.Refused number) = refusedWith number
+
+pub record TellsWriting (wrote : Wrote) (reply : Reply) (output : List ℕ) : Type 0 where
+  pub is-reply : reply ≡ replyToWriting (wrote .answer)
+  pub text : output ≡ wrote .output

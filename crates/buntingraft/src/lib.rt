@@ -9,16 +9,22 @@ use book::reply::tell_completion;
 use epe::ident::ident_of;
 use epe::profile::Profile;
 use memory::SIZE;
+use report::ope::write_ope;
+use report::rkf::write_rkf;
 use sheet::SheetRow;
 use sheet::Sheeting;
 use sheet::Totals;
+use write::Writing;
 ghost use mathlib.Core.Path.{_≡_};
 ghost use Rattle.epe.specs.Ident.{identOf};
 ghost use Rattle.model.specs.Calls.{GoAhead, Pair, Close, OnOrder, Intake, Transfer, On};
 ghost use Rattle.model.specs.declared.Deed.the-variants.{Post, Pay, MarkUndelivered, Withdraw};
 ghost use Rattle.memory.specs.Layout.{size};
+ghost use Rattle.memory.specs.Read.{readBook};
 ghost use Rattle.book.specs.Reply.{Plays};
-ghost use Rattle.buntingraft.specs.Exports.{replyToSheet, Makes, Returns, Sheets};
+ghost use Rattle.report.specs.Rkf.{rkfWritten};
+ghost use Rattle.report.specs.Ope.{opeWritten};
+ghost use Rattle.buntingraft.specs.Exports.{replyToSheet, Makes, Returns, Sheets, replyToWriting, TellsWriting};
 
 // How many bytes a book takes.
 #[no_mangle]
@@ -122,6 +128,45 @@ pub extern "C" fn buntingraft_return(book: &mut [u8], id: &[u8], route: u64, mon
         return refused(book::refuse_return(book, ident_of(id)));
     }
     book::told::return_money(book, id, route_of(route), money_of(money))
+}
+
+// Writes RKF, the report on an order file.
+#[no_mangle]
+pub extern "C" fn buntingraft_write_rkf(
+    own: &[u8],
+    created: u64,
+    source: &[u8],
+    refusal: u64,
+    output: &mut [u8],
+) -> Reply
+    ensures { λ r. ⌜ TellsWriting (rkfWritten (now (own .entry)) created (now (source .entry)) refusal (now (output .entry))) r (now (output .exit)) ⌝ }
+{
+    tell_writing(write_rkf(own, created, source, refusal, output))
+}
+
+// Writes OPE, the report on the faulty orders of a shipment.
+#[no_mangle]
+pub extern "C" fn buntingraft_write_ope(
+    book: &[u8],
+    id: &[u8],
+    own: &[u8],
+    created: u64,
+    codes: &[u64],
+    output: &mut [u8],
+) -> Reply
+    ensures { λ r. ⌜ TellsWriting (opeWritten (readBook (now (book .entry))) (identOf (now (id .entry))) (now (own .entry)) created (now (codes .entry)) (now (output .entry))) r (now (output .exit)) ⌝ }
+{
+    tell_writing(write_ope(book, id, own, created, codes, output))
+}
+
+// What a report says, in three numbers.
+fn tell_writing(writing: Writing) -> Reply
+    ensures { λ r. ⌜ r ≡ replyToWriting writing ⌝ }
+{
+    match writing {
+        Writing::Written(length) => done(length, 0),
+        Writing::Refused(number) => refused(number),
+    }
 }
 
 // What a sheet says, in three numbers.
