@@ -19,6 +19,8 @@ pub enum Records {
     Polish,
     /// Polish letters, about every fifth order faulty, the first among them.
     Faulty,
+    /// Polish letters, every order faulty.
+    AllFaulty,
 }
 
 /// An order file.
@@ -70,7 +72,12 @@ pub fn order_file(id: &str, orders: usize, records: Records) -> OrderFile {
         let amount = 5_000 + drawn(order, 3, 250_000) as u64;
         sum += amount;
         let mut record = record(order, amount, records);
-        if records == Records::Faulty && is_faulty(order) {
+        let is_spoilt = match records {
+            Records::Ascii | Records::Polish => false,
+            Records::Faulty => is_faulty(order),
+            Records::AllFaulty => true,
+        };
+        if is_spoilt {
             spoil(&mut record, drawn(order, 1, 10) + 1);
         }
         lines += &record.join("|");
@@ -97,7 +104,7 @@ fn zlotys(grosze: u64) -> String {
 fn record(order: usize, amount: u64, records: Records) -> Vec<String> {
     let [surnames, first_names, towns, streets] = match records {
         Records::Ascii => ASCII,
-        Records::Polish | Records::Faulty => POLISH,
+        Records::Polish | Records::Faulty | Records::AllFaulty => POLISH,
     };
     let surname = surnames[drawn(order, 4, 6)];
     let first_name = first_names[drawn(order, 5, 6)];

@@ -2,5 +2,6 @@
 
 pub mod calls;
 pub mod files;
+pub mod reports;
 pub mod sheets;
 pub mod twin;

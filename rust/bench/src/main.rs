@@ -3,6 +3,7 @@
 mod books;
 mod on_books;
 mod on_files;
+mod on_reports;
 mod table;
 mod timing;
 
@@ -19,5 +20,7 @@ fn main() {
         println!("{whole}\n{bare}");
     }
     println!("{}", on_books::rows(&clock));
-    print!("{}", on_books::sheets(&clock));
+    println!("{}", on_books::sheets(&clock));
+    println!("{}", on_reports::ope(&clock));
+    print!("{}", on_reports::rkf(&clock));
 }

@@ -24,6 +24,12 @@ pub const FULL_BOOK: Limit = Limit {
     above: "above 2 µs",
 };
 
+/// The limit of a report, for each record.
+pub const REPORT: Limit = Limit {
+    most: 15.0,
+    above: "above 15 ns a record",
+};
+
 /// No limit: the line should be no slower than its rival.
 pub const NONE: Limit = Limit {
     most: f64::INFINITY,
@@ -60,6 +66,14 @@ impl Table {
         let per_byte = times.map(|time| time / bytes as f64);
         let aims = self.aims(times, per_byte[0]);
         self.add(line, per_byte.map(pace), times, aims);
+    }
+
+    /// Adds a line of calls that write so many records, in nanoseconds.
+    pub fn add_records(&mut self, line: &str, records: usize, times: [f64; 2]) {
+        let each = |whole: f64| whole / records as f64;
+        let aims = self.aims(times, each(times[0]));
+        let cell = |whole| format!("{}, {:.1} ns a record", time(whole), each(whole));
+        self.add(line, times.map(cell), times, aims);
     }
 
     /// Adds a line with these cells for the archive and its rival.

@@ -58,6 +58,32 @@
 //! # Ok::<(), buntingraft::Refusal>(())
 //! ```
 //!
+//! # The reports on an order file
+//!
+//! The insurer takes the verdict on its file as a file: an RKF says whether it
+//! was accepted, an OPE which of its orders are faulty.
+//!
+//! ```
+//! use buntingraft::{write_rkf, Book, Profile};
+//!
+//! let file = "\u{FEFF}1|ZUS|EPE|1.0|ZS1|ABC123|20201007120000|20201007|A|0|2|150.00\r\n\
+//!     2|1|100.00|Nowak|Jan|Łódź|90-001|Łódź|Żwirki|7A||||ZASIŁEK|2020-10||||\r\n\
+//!     2|2|50.00||Łucja|Łódź|90-001|Łódź|Żwirki|7A||||ZASIŁEK|2020-10||||\r\n";
+//! let profile = Profile { today: 20_201_007, fees: [350; 5], fields: 19 };
+//!
+//! let mut book = Book::empty();
+//! let taken_in = book.intake(&profile, b"EPEZZS1-201007-A-0", file.as_bytes());
+//! let refusal = taken_in.map_or_else(|refusal| refusal.number(), |_| 0);
+//! let rkf = write_rkf(b"PP0000000001", 20_201_007_130_000, b"ZS1", refusal)?;
+//! assert_eq!(rkf, "\u{FEFF}1|PP|RKF|1.0|PP0000000001|20201007130000|EPE|ZS1|1".as_bytes());
+//!
+//! let codes = [308, 309, 310, 311, 312, 313, 314, 315, 316, 317]; // one for each fault
+//! let ope = book.write_ope(b"ZS1", b"PP0000000003", 20_201_007_131_500, &codes)?;
+//! let expected = "\u{FEFF}1|PP|OPE|1.0|PP0000000003|20201007131500|EPE|ZS1|1\r\n2|1|2|308";
+//! assert_eq!(ope, expected.as_bytes());
+//! # Ok::<(), buntingraft::Refusal>(())
+//! ```
+//!
 //! # A book in memory that is lent to it
 //!
 //! ```
@@ -83,6 +109,7 @@ mod journal;
 mod money;
 mod question;
 mod refusal;
+mod report;
 mod sheet;
 mod sys;
 
@@ -92,6 +119,7 @@ pub use journal::{Journal, NotReplayed};
 pub use money::{Amount, Fee, Money, Route};
 pub use question::{Call, Question};
 pub use refusal::Refusal;
+pub use report::{write_rkf, write_rkf_into};
 pub use sheet::Sheet;
 pub use sys::{Profile, Reply, SheetRow, Totals};
 
@@ -101,3 +129,11 @@ pub const BOOK_BYTES: usize = 18_496;
 /// How many shipments a book has at most, so that a table of as many rows is
 /// enough for the sheet of any book.
 pub const MOST_SHIPMENTS: usize = 32;
+
+/// How many bytes an RKF has at most, so that an output of as many is enough for
+/// any.
+pub const MOST_RKF_BYTES: usize = 83;
+
+/// How many bytes an OPE has at most, so that an output of as many is enough for
+/// any shipment's.
+pub const MOST_OPE_BYTES: usize = 32_677;

@@ -3,7 +3,7 @@
 
 use std::fmt;
 
-/// The calls on a book.
+/// The calls.
 #[derive(Clone, Copy, Debug, PartialEq, Eq, PartialOrd, Ord, Hash)]
 pub enum Call {
     /// Making an empty book.
@@ -30,6 +30,10 @@ pub enum Call {
     Return,
     /// The balance sheet is filled.
     Sheet,
+    /// The report on an order file (RKF) is written.
+    WriteRkf,
+    /// The report on a shipment's faulty orders (OPE) is written.
+    WriteOpe,
 }
 
 /// A question that a call asks, and its number.
@@ -43,7 +47,7 @@ pub struct Question {
 
 impl Call {
     /// Every call.
-    pub const ALL: [Call; 12] = [
+    pub const ALL: [Call; 14] = [
         Call::MakeEmpty,
         Call::Intake,
         Call::Transfer,
@@ -56,6 +60,8 @@ impl Call {
         Call::Withdraw,
         Call::Return,
         Call::Sheet,
+        Call::WriteRkf,
+        Call::WriteOpe,
     ];
 
     /// The questions that this call asks. A return asks 24 of ZWR, and 19 and
@@ -71,6 +77,8 @@ impl Call {
             Call::Post | Call::Pay | Call::MarkUndelivered | Call::Withdraw => ON_ORDER,
             Call::Return => RETURN,
             Call::Sheet => SHEET,
+            Call::WriteRkf => WRITE_RKF,
+            Call::WriteOpe => WRITE_OPE,
         }
     }
 }
@@ -90,6 +98,8 @@ impl fmt::Display for Call {
             Call::Withdraw => "withdraw",
             Call::Return => "return",
             Call::Sheet => "sheet",
+            Call::WriteRkf => "write RKF",
+            Call::WriteOpe => "write OPE",
         })
     }
 }
@@ -104,6 +114,7 @@ const SOUND: Question = ask(10, SOUND_WORDS);
 const KNOWN: Question = ask(13, "Is the identifier in the book?");
 const WAITING: Question = ask(15, "Is the shipment Waiting?");
 const PAIRED: Question = ask(19, "Is the shipment Paired?");
+const LONG_ENOUGH: Question = ask(30, "Is the output long enough?");
 
 const MAKE_EMPTY: &[Question] = &[ask(10, "Is the memory long enough?")];
 
@@ -234,6 +245,26 @@ const SHEET: &[Question] = &[
     ask(26, "Is no total above 999,999,999,999,999 after adding?"),
 ];
 
+const WRITE_RKF: &[Question] = &[
+    ask(
+        31,
+        "Are both identifiers in form, is the creation time a real date and time, \
+         and is the refusal 0 or 100 to 307?",
+    ),
+    LONG_ENOUGH,
+];
+
+const WRITE_OPE: &[Question] = &[
+    SOUND,
+    KNOWN,
+    ask(
+        31,
+        "Is the own identifier in form, is the creation time a real date and time, \
+         and has each fault of the shipment a code of 308 to 336?",
+    ),
+    LONG_ENOUGH,
+];
+
 #[cfg(test)]
 mod tests {
     use super::*;
@@ -241,16 +272,20 @@ mod tests {
 
     const HEADER: &str = include_str!("../../../include/buntingraft.h");
 
-    /// The numbered questions that stand in the header, as "10  Is ..?".
+    /// The numbered questions that stand in the header, as "10  Is ..?", each in
+    /// one line or in several.
     fn header_questions() -> BTreeSet<String> {
-        let lines = HEADER
-            .lines()
-            .map(|line| line.trim_start_matches([' ', '*']));
-        let numbered = lines.filter(|line| line.starts_with(|first: char| first.is_ascii_digit()));
-        numbered
-            .filter(|line| line.ends_with('?'))
-            .map(String::from)
-            .collect()
+        let mut numbered: Vec<String> = Vec::new();
+        for line in HEADER.lines() {
+            let line = line.trim_start_matches([' ', '*']);
+            if line.starts_with(|first: char| first.is_ascii_digit()) {
+                numbered.push(line.into());
+            } else if let Some(begun) = numbered.last_mut().filter(|text| !text.ends_with('?')) {
+                *begun += &format!(" {line}");
+            }
+        }
+        numbered.retain(|text| text.ends_with('?'));
+        numbered.into_iter().collect()
     }
 
     #[test]

@@ -196,6 +196,31 @@ unsafe extern "C" {
         totals: *mut Totals,
     ) -> Reply;
 
+    pub(crate) fn buntingraft_write_rkf(
+        own: *const u8,
+        own_length: usize,
+        created: u64,
+        source: *const u8,
+        source_length: usize,
+        refusal: u64,
+        output: *mut u8,
+        output_length: usize,
+    ) -> Reply;
+
+    pub(crate) fn buntingraft_write_ope(
+        book: *const u8,
+        book_length: usize,
+        id: *const u8,
+        id_length: usize,
+        own: *const u8,
+        own_length: usize,
+        created: u64,
+        codes: *const u64,
+        codes_count: usize,
+        output: *mut u8,
+        output_length: usize,
+    ) -> Reply;
+
     pub(crate) fn buntingraft_replay(
         book: *mut u8,
         book_length: usize,

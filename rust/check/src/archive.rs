@@ -1,7 +1,8 @@
 //! A call made on the archive, through the bindings, and told as the reference
 //! tells it.
 
-use buntingraft::{Book, Pairing, Profile, Refusal, SheetRow, Totals};
+use crate::report::{Kind, Report};
+use buntingraft::{write_rkf_into, Book, Pairing, Profile, Refusal, SheetRow, Totals};
 use reference::{Answer, Call};
 
 /// Which of the archive's calls this is.
@@ -29,6 +30,19 @@ pub fn make_empty(bytes: &mut [u8]) -> Result<Answer, Refusal> {
 /// filled.
 pub fn sheet(bytes: &[u8], table: &mut [SheetRow], totals: &mut Totals) -> Result<usize, Refusal> {
     Book::lent(bytes).sheet_into(table, totals)
+}
+
+/// Writes a report into this output, an OPE of the book in these bytes, and
+/// gives the length written.
+pub fn report(bytes: &[u8], report: &Report, output: &mut [u8]) -> Result<usize, Refusal> {
+    let (own, created, source) = (&report.own, report.created, &report.source);
+    match &report.kind {
+        Kind::Rkf(refusal) => write_rkf_into(own, created, source, *refusal, output),
+        Kind::Ope(codes) => {
+            let book = Book::lent(bytes);
+            book.write_ope_into(source, own, created, codes, output)
+        }
+    }
 }
 
 /// The archive's answer to a call on the book in these bytes.

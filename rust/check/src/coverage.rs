@@ -3,6 +3,8 @@
 
 use crate::archive::kind;
 use crate::naming::has_long_date;
+use crate::report::{Report, Written};
+use crate::reported::Reported;
 use crate::sheet::Taken;
 use buntingraft::{Call, NotReplayed};
 use reference::{Answer, Book, Money, Route, State};
@@ -35,6 +37,7 @@ pub struct Coverage {
     long_titles: BTreeMap<Outcome, u64>,
     returns: BTreeMap<(u64, u64), u64>,
     faults: [u64; 11],
+    reported: Reported,
     replayed: u64,
     not_replayed: [u64; 3],
     /// Random lists.
@@ -84,6 +87,19 @@ impl Coverage {
             Err(number) => Answer::Refused(*number),
         };
         self.note_answer(Call::Sheet, &answer);
+    }
+
+    /// Counts a report, an OPE of this book; of one that was written also what
+    /// stands in it.
+    pub fn note_report(&mut self, report: &Report, book: Option<&Book>, written: &Written) {
+        let answer = match written {
+            Ok(_) => Answer::Done,
+            Err(number) => Answer::Refused(*number),
+        };
+        self.note_answer(report.call(), &answer);
+        if written.is_ok() {
+            self.reported.note(report, book);
+        }
     }
 
     /// Counts a replay.
@@ -162,10 +178,40 @@ impl Coverage {
         for fault in (1..=10).filter(|fault| self.faults[*fault] == 0) {
             missing.push(format!("fault {fault}"));
         }
+        missing.extend(self.reported.missing());
         for reason in (1..=3).filter(|reason| self.not_replayed[reason - 1] == 0) {
             missing.push(format!("journal not replayed for {reason}"));
         }
         missing
+    }
+
+    /// The rows below those of the calls: what was counted apart.
+    fn rows(&self) -> Vec<(&'static str, Vec<String>)> {
+        let long = |outcome: &Outcome| self.long_titles.get(outcome).unwrap_or(&0);
+        let long_titles = Coverage::outcomes(Call::Transfer);
+        let long_titles = long_titles
+            .iter()
+            .map(|outcome| format!("{outcome}: {}", long(outcome)));
+        let refused = self.refused_but_at_intake().into_iter();
+        let refused = refused.map(|(number, count)| format!("{number}: {count}"));
+        let done = |way: &(u64, u64)| self.returns.get(way).unwrap_or(&0);
+        let returns = Coverage::ways().into_iter();
+        let returns = returns.map(|way| format!("{}: {}", way_name(way), done(&way)));
+        let faults = self.faults.iter().enumerate().skip(1);
+        let faults = faults.map(|(fault, count)| format!("{fault}: {count}"));
+        let [subjects, faults_reported] = self.reported.cells();
+        let reasons = self.not_replayed.iter().zip(1..);
+        let reasons = reasons.map(|(count, reason)| format!("not {reason}: {count}"));
+        let replayed = std::iter::once(format!("done: {}", self.replayed));
+        vec![
+            ("long titles", long_titles.collect()),
+            ("all but intake", refused.collect()),
+            ("returns done", returns.collect()),
+            ("faults", faults.collect()),
+            ("reports written", subjects),
+            ("faults in an OPE", faults_reported),
+            ("journals", replayed.chain(reasons).collect()),
+        ]
     }
 }
 
@@ -190,49 +236,28 @@ impl fmt::Display for Outcome {
 impl fmt::Display for Coverage {
     fn fmt(&self, f: &mut fmt::Formatter<'_>) -> fmt::Result {
         let calls = self.calls(None);
-        let [files, sheets] = [Call::Intake, Call::Sheet].map(|kind| self.calls(Some(kind)));
-        writeln!(f, "{calls} calls, {files} of them files, {sheets} sheets")?;
+        let kinds = [Call::Intake, Call::Sheet, Call::WriteRkf, Call::WriteOpe];
+        let [files, sheets, rkf, ope] = kinds.map(|kind| self.calls(Some(kind)));
+        let reports = rkf + ope;
+        writeln!(
+            f,
+            "{calls} calls, {files} of them files, {sheets} sheets, {reports} reports"
+        )?;
         writeln!(f, "{} random lists, {} probes", self.lists, self.probes)?;
         writeln!(f, "{} pieces of memory that no calls made", self.memories)?;
         for call in Call::ALL {
             let cell = |outcome: &Outcome| format!("{outcome}: {}", self.count(call, *outcome));
             let outcomes = Coverage::outcomes(call);
-            write_row(f, &call.to_string(), outcomes.iter().map(cell))?;
+            write_row(f, &call.to_string(), outcomes.iter().map(cell).collect())?;
         }
-        let long = |outcome: &Outcome| self.long_titles.get(outcome).unwrap_or(&0);
-        let outcomes = Coverage::outcomes(Call::Transfer);
-        let cells = outcomes
-            .iter()
-            .map(|outcome| format!("{outcome}: {}", long(outcome)));
-        write_row(f, "long titles", cells)?;
-        let refused = self.refused_but_at_intake();
-        let cells = refused
-            .iter()
-            .map(|(number, count)| format!("{number}: {count}"));
-        write_row(f, "all but intake", cells)?;
-        let done = |way: &(u64, u64)| self.returns.get(way).unwrap_or(&0);
-        let ways = Coverage::ways();
-        let cells = ways
-            .iter()
-            .map(|way| format!("{}: {}", way_name(*way), done(way)));
-        write_row(f, "returns done", cells)?;
-        let faults = self.faults.iter().enumerate().skip(1);
-        let cells = faults.map(|(fault, count)| format!("{fault}: {count}"));
-        write_row(f, "faults", cells)?;
-        let reasons = self.not_replayed.iter().zip(1..);
-        let cells = reasons.map(|(count, reason)| format!("not {reason}: {count}"));
-        let done = std::iter::once(format!("done: {}", self.replayed));
-        write_row(f, "journals", done.chain(cells))
+        let mut rows = self.rows().into_iter();
+        rows.try_for_each(|(title, cells)| write_row(f, title, cells))
     }
 }
 
 /// Writes a row of the table: its title, and its cells in lines of six.
-fn write_row(
-    f: &mut fmt::Formatter<'_>,
-    title: &str,
-    cells: impl Iterator<Item = String>,
-) -> fmt::Result {
-    let cells: Vec<String> = cells.map(|cell| format!("{cell:<14}")).collect();
+fn write_row(f: &mut fmt::Formatter<'_>, title: &str, cells: Vec<String>) -> fmt::Result {
+    let cells: Vec<String> = cells.iter().map(|cell| format!("{cell:<15} ")).collect();
     for (line, cells) in cells.chunks(6).enumerate() {
         let title = if line == 0 { title } else { "" };
         writeln!(f, "  {title:<18}{}", cells.concat().trim_end())?;

@@ -8,6 +8,8 @@ use crate::naming::{dated_title, long_title, nearly_long_dates, position_named, 
 use crate::numbers::Numbers;
 use crate::orders::{good_draft, spoil_byte, spoilt_intake};
 use crate::probe;
+use crate::report::Report;
+use crate::reports;
 use crate::sheet::Lending;
 use reference::{Book, Call, Money, Name, Shipment, Stage, State, MOST_SUM};
 
@@ -26,6 +28,7 @@ const IDENTIFIERS: [&str; 6] = [
 pub struct Generator {
     numbers: Numbers,
     sheet_numbers: Numbers,
+    report_numbers: Numbers,
     identifiers: Vec<String>,
     most_orders: usize,
     /// How many calls the list has.
@@ -53,6 +56,7 @@ impl Generator {
         Generator {
             numbers,
             sheet_numbers: Numbers::of(!seed, list),
+            report_numbers: Numbers::of(seed.rotate_left(16), list),
             identifiers,
             most_orders,
             calls,
@@ -102,6 +106,17 @@ impl Generator {
     /// What is lent for a sheet of this book.
     pub fn lending(&mut self, book: &Book) -> Lending {
         lendings::some(book, &mut self.sheet_numbers)
+    }
+
+    /// The reports that are asked for, an OPE of this book and an RKF, each with
+    /// the length of its output.
+    pub fn reports(&mut self, book: &Book) -> [(Report, usize); 2] {
+        let numbers = &mut self.report_numbers;
+        let reports = [reports::some_ope(book, numbers), reports::some_rkf(numbers)];
+        reports.map(|report| {
+            let length = reports::some_length(&report, book, numbers);
+            (report, length)
+        })
     }
 
     /// A good file, most often with an identifier that is not in the book yet.

@@ -1,9 +1,10 @@
 //! Lent memory between two guards, and what every call owes to its bytes: the
 //! guards and what lies behind the book are never touched, and a refusal (or a
-//! Short pairing, or a sheet) leaves every byte.
+//! Short pairing, a sheet or a report) leaves every byte.
 
 use crate::archive;
 use crate::layout::LENGTH;
+use crate::report::Report;
 use buntingraft::{Book, NotReplayed, Refusal, Reply, SheetRow, Totals};
 use reference::{Answer, Call};
 use std::fmt::Debug;
@@ -70,6 +71,18 @@ impl Lent {
     ) -> Result<Result<usize, u32>, String> {
         let act = |bytes: &mut [u8]| archive::sheet(bytes, table, totals);
         let answer = self.asked(buntingraft::Call::Sheet, act)?;
+        self.unchanged(answer)
+    }
+
+    /// Writes a report, and gives the length written, or the number of its
+    /// refusal; or what was wrong with it.
+    pub fn report(
+        &mut self,
+        report: &Report,
+        output: &mut [u8],
+    ) -> Result<Result<usize, u32>, String> {
+        let act = |bytes: &mut [u8]| archive::report(bytes, report, output);
+        let answer = self.asked(report.call(), act)?;
         self.unchanged(answer)
     }
 

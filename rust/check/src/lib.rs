@@ -4,10 +4,12 @@
 //!
 //! - [`twin`], [`lent`], [`layout`]: lent memory and the reference's book side by side.
 //! - [`sheet`], [`lendings`]: the balance sheet of both, and what it is lent.
+//! - [`report`], [`reading`], [`reports`], [`values`]: the report files of both,
+//!   how they are read back, and which are asked for with what values.
 //! - [`journal`], [`replay`]: a list of calls as bytes, and its replay.
 //! - [`run`], [`ledger`]: a list of calls under way, and demand 3 over it.
 //! - [`directed`], [`memory`], [`lists`]: the cases, memory and lists tried.
-//! - [`coverage`]: what of it all was reached.
+//! - [`coverage`], [`reported`]: what of it all was reached.
 
 pub mod archive;
 pub mod breaks;
@@ -27,12 +29,17 @@ pub mod naming;
 pub mod numbers;
 pub mod orders;
 pub mod probe;
+pub mod reading;
 pub mod replay;
+pub mod report;
+pub mod reported;
+pub mod reports;
 pub mod run;
 pub mod sheet;
 pub mod stages;
 pub mod telling;
 pub mod twin;
+pub mod values;
 
 use coverage::Coverage;
 

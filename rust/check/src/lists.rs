@@ -1,5 +1,6 @@
 //! Random lists of calls, each on a book that starts empty, with both books
-//! compared and probed after every call, and the whole list replayed at its end.
+//! compared and probed after every call, reports written of them, and the whole
+//! list replayed at its end.
 
 use crate::coverage::Coverage;
 use crate::generator::Generator;
@@ -23,6 +24,9 @@ fn check_list(seed: u64, list: u64, coverage: &mut Coverage) {
         let call = generator.call(run.book());
         run.call(call.clone());
         let _ = run.sheet(&generator.lending(run.book()));
+        for (report, length) in generator.reports(run.book()) {
+            let _ = run.report(&report, length);
+        }
         run.probe(&generator.probes(&call, run.book()));
     }
     run.replay(&mut Numbers::of(seed.rotate_left(32), list));

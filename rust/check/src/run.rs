@@ -7,6 +7,7 @@ use crate::layout::LENGTH;
 use crate::ledger::Ledger;
 use crate::numbers::Numbers;
 use crate::replay;
+use crate::report::{Report, Written};
 use crate::sheet::{Lending, Taken};
 use crate::telling::{end_with, told};
 use crate::twin::Twin;
@@ -105,6 +106,29 @@ impl<'a> Run<'a> {
         }
     }
 
+    /// Writes a report of the book as it stands into an output of so many bytes,
+    /// and gives what it answers.
+    pub fn report(&mut self, report: &Report, length: usize) -> Written {
+        match self.twin.report(report, length) {
+            Ok(written) => {
+                let book = self.twin.book.as_ref();
+                self.coverage.note_report(report, book, &written);
+                written
+            }
+            Err(difference) => self.differs(&report.told(length), &difference),
+        }
+    }
+
+    /// Writes a report, whose answer is known from the papers: the length
+    /// written, or the number of its refusal.
+    pub fn expect_report(&mut self, report: &Report, length: usize, expected: Result<usize, u32>) {
+        let answer = self.report(report, length).map(|file| file.len());
+        if answer != expected {
+            let difference = format!("both answer {answer:?}, not {expected:?}");
+            self.differs(&report.told(length), &difference);
+        }
+    }
+
     /// Makes the next call, whose answer is known from the papers.
     pub fn expect(&mut self, call: Call, expected: Answer) {
         let answer = self.call(call.clone());
@@ -149,7 +173,8 @@ impl<'a> Run<'a> {
         self.coverage.probes += calls.len() as u64;
     }
 
-    /// Ends the program with the difference that a call or a sheet showed.
+    /// Ends the program with the difference that a call, a sheet or a report
+    /// showed.
     fn differs(&self, what: &str, difference: &str) -> ! {
         let mut so_far = String::new();
         for (call, answer) in &self.made {

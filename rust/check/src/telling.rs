@@ -42,7 +42,7 @@ pub fn end_with(difference: &str) -> ! {
 }
 
 /// Bytes as text: those that are not printable in the form `\x00`.
-fn text(bytes: &[u8]) -> String {
+pub fn text(bytes: &[u8]) -> String {
     match std::str::from_utf8(bytes) {
         Ok(text) => text.escape_debug().to_string(),
         Err(_) => bytes.escape_ascii().to_string(),

@@ -2,6 +2,7 @@
 
 use crate::layout::sound_book;
 use crate::lent::{leaves_the_book, Lent};
+use crate::report::{self, Report, Written};
 use crate::sheet::{self, Lending, Taken};
 use reference::{Answer, Book, Call};
 
@@ -74,6 +75,12 @@ impl Twin {
     /// Takes the sheet of both, and gives what it answers, or the difference.
     pub fn sheet(&mut self, lending: &Lending) -> Result<Taken, String> {
         sheet::take(&mut self.lent, self.book.as_ref(), lending)
+    }
+
+    /// Writes a report of both into outputs of so many bytes, and gives what it
+    /// answers, or the difference.
+    pub fn report(&mut self, report: &Report, length: usize) -> Result<Written, String> {
+        report::write(&mut self.lent, self.book.as_ref(), report, length)
     }
 
     /// Makes each of these calls on a copy of both, kept in `aside`, and tells

@@ -18,15 +18,23 @@ fn days_in_month(year: u64, month: u64) -> u64 {
     }
 }
 
-/// Parts a date number into year, month and day.
-fn parts(date: u64) -> (u64, u64, u64) {
-    (date / 10_000, date / 100 % 100, date % 100)
+/// Parts a date number into year, month and day, a time number into hour,
+/// minute and second.
+fn parts(number: u64) -> (u64, u64, u64) {
+    (number / 10_000, number / 100 % 100, number % 100)
 }
 
 /// A real date of the years 2000 to 2099?
 pub fn is_real_date(date: u64) -> bool {
     let (year, month, day) = parts(date);
     (2000..=2099).contains(&year) && day >= 1 && day <= days_in_month(year, month)
+}
+
+/// "hour 00-23, minute and second 00-59"? A time of day is the number its six
+/// digits hhmmss read as.
+pub fn is_time_of_day(time: u64) -> bool {
+    let (hour, minute, second) = parts(time);
+    hour <= 23 && minute <= 59 && second <= 59
 }
 
 /// The number of days from 1 January 2000 to a real date.

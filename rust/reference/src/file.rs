@@ -5,7 +5,7 @@
 //! 023 and 102), 903 and 904 (after 132). So the file's questions come in two
 //! parts, [`open`] up to 023 and [`Opened::judge_rest`] from 102.
 
-use crate::calendar::{is_real_date, is_within};
+use crate::calendar::{is_real_date, is_time_of_day, is_within};
 use crate::name::{read_name, Name};
 use crate::text::{are_digits, is_digit, is_letter, number, read_amount, read_sum};
 use crate::MOST_AMOUNT;
@@ -253,15 +253,8 @@ fn is_created(text: &[u8], today: u64) -> bool {
     if !are_digits(text, 14, 14) {
         return false;
     }
-    let date = number(&text[..8]);
-    let hour = number(&text[8..10]);
-    let minute = number(&text[10..12]);
-    let second = number(&text[12..14]);
-    is_real_date(date)
-        && hour <= 23
-        && minute <= 59
-        && second <= 59
-        && is_within(date, 60, 10, today)
+    let (date, time) = (number(&text[..8]), number(&text[8..]));
+    is_real_date(date) && is_time_of_day(time) && is_within(date, 60, 10, today)
 }
 
 /// "An order is faulty by its first fault".

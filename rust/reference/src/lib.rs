@@ -1,10 +1,11 @@
 //! A plain reference implementation of the settlement book for EPE shipments.
 //!
-//! Written from document 01 (the law), document 02 (its changes, of which A1 is
-//! in), document 00 (the demands), the decided readings and source document 003
-//! sections 3, 5.1 and 6; from nothing else. It is meant to be read beside
-//! document 01: every question carries that document's words and number, in
-//! that document's order. Words of document 02 are marked as such.
+//! Written from document 01 (the law), document 02 (its changes, of which A1 and
+//! A2 are in), document 00 (the demands), the decided readings and source
+//! document 003 sections 3, 5.1, 5.3.3.1, 5.4.3.1 and 6; from nothing else. It is
+//! meant to be read beside document 01: every question carries that document's
+//! words and number, in that document's order. Words of document 02 are marked as
+//! such.
 //!
 //! - [`calendar`]: real dates and differences in days.
 //! - [`text`]: digits, letters, amounts, sums, identifiers.
@@ -12,17 +13,20 @@
 //! - [`file`](mod@file): the profile and the questions a file is asked.
 //! - [`book`]: the book as plain values, its calls and their answers.
 //! - [`sheet`]: the balance sheet of a book.
+//! - [`report`]: the report files RKF and OPE.
 
 pub mod book;
 pub mod calendar;
 pub mod file;
 pub mod name;
+pub mod report;
 pub mod sheet;
 pub mod text;
 
 pub use book::{Answer, Book, Call, Money, Route, Row, Shipment, Stage, State, Waits};
 pub use file::{judge, read_file, Order, OrderFile, Profile};
 pub use name::{read_name, read_title, Name};
+pub use report::{rkf, rkf_into};
 pub use sheet::{SheetRow, Sums};
 
 /// "An order's amount is 1 to 999,999,999"; a fee is 0 to the same.

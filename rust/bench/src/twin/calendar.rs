@@ -26,6 +26,15 @@ pub fn is_real(date: u32) -> bool {
         && (1..=days_in_month(year, month)).contains(&day)
 }
 
+/// Is it a real date and a time of day, as the 14 digits yyyymmddhhmmss write
+/// them?
+pub fn is_moment(digits: u64) -> bool {
+    u32::try_from(digits / 1_000_000).is_ok_and(is_real)
+        && digits / 10_000 % 100 <= 23
+        && digits / 100 % 100 <= 59
+        && digits % 100 <= 59
+}
+
 /// The days from 1 January 2000 to a real date.
 fn day_number(date: u32) -> u32 {
     let (year, month, day) = parts(date);

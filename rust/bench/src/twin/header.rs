@@ -1,6 +1,6 @@
 //! The opening of an order file: its bytes, its name and its header line.
 
-use super::calendar::{is_real, is_within};
+use super::calendar::{is_moment, is_real, is_within};
 use super::lines::{cut, line};
 use super::name::{read_name, Name};
 use super::text::{grosze, number};
@@ -120,10 +120,5 @@ fn is_created(text: &str, today: u32) -> bool {
     let Some(digits) = number(text, 14, 14) else {
         return false;
     };
-    let date = (digits / 1_000_000) as u32;
-    digits / 10_000 % 100 <= 23
-        && digits / 100 % 100 <= 59
-        && digits % 100 <= 59
-        && is_real(date)
-        && is_within(date, 60, 10, today)
+    is_moment(digits) && is_within((digits / 1_000_000) as u32, 60, 10, today)
 }

@@ -11,10 +11,13 @@ mod layout;
 mod lines;
 mod name;
 mod records;
+mod report;
 mod returns;
 mod sheet;
 mod sound;
 mod text;
+
+pub use report::write_rkf;
 
 /// An order's amount and a fee are at most this.
 const ORDER_CAP: u64 = 999_999_999;

@@ -3,6 +3,7 @@
 
 mod directed;
 mod random;
+mod reports;
 mod sheets;
 mod soundness;
 

@@ -1,5 +1,6 @@
 //! Long lists of random calls, some of them with spoilt files and names.
 
+use crate::reports::agree_on_ope;
 use crate::sheets::agree_on_sheets;
 use crate::Rivals;
 use bench::calls::{Answer, Call};
@@ -114,6 +115,7 @@ fn random_calls_are_answered_alike() {
             done += usize::from(!matches!(answer, Answer::Refused(_)));
         }
         agree_on_sheets(&rivals.archive);
+        agree_on_ope(&rivals.archive, dice.one_of(&IDS).as_bytes());
     }
     assert!(done > 6_000, "{done}");
 }

@@ -40,7 +40,7 @@ pub fn check(coverage: &mut Coverage) {
 
 /// These bytes with one of them replaced by each other value, taken out, or
 /// doubled.
-fn changed(bytes: &[u8]) -> Vec<Vec<u8>> {
+pub fn changed(bytes: &[u8]) -> Vec<Vec<u8>> {
     let mut all = Vec::new();
     for place in 0..bytes.len() {
         for value in 0..=255 {

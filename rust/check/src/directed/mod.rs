@@ -1,15 +1,17 @@
 //! Cases taken from the papers one by one: every question and every two, every
-//! boundary, every refusal, long titles, full books, sheets, journals, ZS1 and
-//! the field engineer's card.
+//! boundary, every refusal, long titles, full books, sheets, report files,
+//! journals, ZS1 and the field engineer's card.
 
 mod bytes;
 mod card;
 mod dates;
 mod fields;
 mod full;
+mod ope;
 mod questions;
 mod refusals;
 mod replay;
+mod rkf;
 mod sheet;
 mod titles;
 
@@ -25,6 +27,8 @@ pub fn check(coverage: &mut Coverage) {
     titles::check(coverage);
     full::check(coverage);
     sheet::check(coverage);
+    rkf::check(coverage);
+    ope::check(coverage);
     replay::check(coverage);
     card::check(coverage);
 }

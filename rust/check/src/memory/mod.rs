@@ -1,7 +1,7 @@
 //! Memory that is no book made by calls: too short, garbage, or a book with
 //! bytes changed by somebody else. Where it is a sound book all the same, the
-//! calls and the sheet do what the reference does with that book; else they are
-//! refused with 10 (an intake with 900) and leave every byte.
+//! calls, the sheet and an OPE do what the reference does with that book; else
+//! they are refused with 10 (an intake with 900) and leave every byte.
 
 mod corrupt;
 mod fields;
@@ -14,6 +14,7 @@ use crate::draft::Draft;
 use crate::lendings;
 use crate::naming::{long_title, title, MONEYS};
 use crate::probe::deeds_on;
+use crate::reports;
 use crate::run::Run;
 use crate::stages;
 use crate::telling::{end_with, told};
@@ -69,8 +70,8 @@ fn calls_in_turn(book: &Book, turn: usize) -> Vec<Call> {
     every_call(book, turn % count, turn / count)
 }
 
-/// Makes each call on a copy of this memory, and takes its sheet. `what` says
-/// which memory it is, should a difference show.
+/// Makes each call on a copy of this memory, takes its sheet, and writes an OPE
+/// of it. `what` says which memory it is, should a difference show.
 fn try_calls(twin: &Twin, calls: &[Call], what: impl Fn() -> String, desk: &mut Desk) {
     let coverage = &mut *desk.coverage;
     let tried = twin.try_each(&mut desk.aside, calls, |call, answer, after| {
@@ -85,6 +86,15 @@ fn try_calls(twin: &Twin, calls: &[Call], what: impl Fn() -> String, desk: &mut 
     match desk.aside.sheet(&lending) {
         Ok(taken) => desk.coverage.note_sheet(&taken),
         Err(difference) => end_with(&format!("{}\n  {lending} -> ?\n{difference}", what())),
+    }
+    let book = twin.book.as_ref();
+    let (report, length) = reports::in_turn(book, desk.coverage.memories);
+    match desk.aside.report(&report, length) {
+        Ok(written) => desk.coverage.note_report(&report, book, &written),
+        Err(difference) => {
+            let (what, report) = (what(), report.told(length));
+            end_with(&format!("{what}\n  {report} -> ?\n{difference}"));
+        }
     }
     desk.coverage.memories += 1;
 }

@@ -6,5 +6,6 @@ mod file_questions;
 mod helpers;
 mod lists;
 mod refusals;
+mod report;
 mod sheet;
 mod zs1;
