@@ -136,6 +136,29 @@ contents-refused :
 unfolding holdsOrders
 contents-refused = refl
 
+-- Sums: a leading zero is 130, of zero too, and a sum of nothing is 131; field 11 keeps its zeros.
+sums-spelled :
+    judgedWith "1|ZUS|EPE|1.0|ZS1|ABC123|20201007120000|20201007|A|0|000003|175.50" (first ∷ second ∷ third ∷ [])
+    ∷ judgedWith "1|ZUS|EPE|1.0|ZS1|ABC123|20201007120000|20201007|A|0|3|00175.50" (first ∷ second ∷ third ∷ [])
+    ∷ judgedWith "1|ZUS|EPE|1.0|ZS1|ABC123|20201007120000|20201007|A|0|3|00.00" (first ∷ second ∷ third ∷ [])
+    ∷ judgedWith "1|ZUS|EPE|1.0|ZS1|ABC123|20201007120000|20201007|A|0|3|0.00" (first ∷ second ∷ third ∷ [])
+    ∷ []
+    ≡ Passed ∷ Refused 130 ∷ Refused 130 ∷ Refused 131 ∷ []
+unfolding holdsOrders
+sums-spelled = refl
+
+-- Amounts: a leading zero is 902, and so is an amount of nothing; a record's number keeps its zeros.
+amounts-spelled :
+    judgedWith "1|ZUS|EPE|1.0|ZS1|ABC123|20201007120000|20201007|A|0|1|7.50" ("2|000001|7.50||||||||||||||||" ∷ [])
+    ∷ judgedWith "1|ZUS|EPE|1.0|ZS1|ABC123|20201007120000|20201007|A|0|1|7.50" ("2|1|007.50||||||||||||||||" ∷ [])
+    ∷ judgedWith "1|ZUS|EPE|1.0|ZS1|ABC123|20201007120000|20201007|A|0|1|0.01" ("2|1|0.01||||||||||||||||" ∷ [])
+    ∷ judgedWith "1|ZUS|EPE|1.0|ZS1|ABC123|20201007120000|20201007|A|0|1|0.01" ("2|1|00.01||||||||||||||||" ∷ [])
+    ∷ judgedWith "1|ZUS|EPE|1.0|ZS1|ABC123|20201007120000|20201007|A|0|1|0.01" ("2|1|0.00||||||||||||||||" ∷ [])
+    ∷ []
+    ≡ Passed ∷ Refused 902 ∷ Passed ∷ Refused 902 ∷ Refused 902 ∷ []
+unfolding holdsOrders
+amounts-spelled = refl
+
 -- Document 01, ZS1, line 11: created on 20200808 or 20201017 passes, 20200807 or 20201018 is 103.
 line-11 :
     judgedWith "1|ZUS|EPE|1.0|ZS1|ABC123|20200808000000|20201007|A|0|3|175.50" (first ∷ second ∷ third ∷ [])

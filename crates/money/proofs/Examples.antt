@@ -25,10 +25,15 @@ sumTexts = map (λ s. sumText (bytes s))
 abbrev amount : ℕ → AmountRead
 amount grosze = AmountIs (record { 0 = grosze })
 
-order-texts : orderTexts ("0.00" ∷ "0.01" ∷ "0000001.50" ∷ "9999999.99" ∷ [])
-    ≡ amount 0 ∷ amount 1 ∷ amount 150 ∷ amount 999_999_999 ∷ []
+order-texts : orderTexts ("0.00" ∷ "0.01" ∷ "0.50" ∷ "7.50" ∷ "10.00" ∷ "9999999.99" ∷ [])
+    ≡ amount 0 ∷ amount 1 ∷ amount 50 ∷ amount 750 ∷ amount 1_000 ∷ amount 999_999_999 ∷ []
 unfolding textOf together number numberAfter digit
 order-texts = refl
+
+-- A leading zero, of zero too.
+leading-zeros : orderTexts ("00.50" ∷ "007.50" ∷ "01.00" ∷ "00.00" ∷ "0000001.50" ∷ []) ≡ NoAmount ∷ NoAmount ∷ NoAmount ∷ NoAmount ∷ NoAmount ∷ []
+unfolding textOf together number numberAfter digit
+leading-zeros = refl
 
 -- No digit before the point, or eight of them; one behind it, or three.
 other-lengths : orderTexts (".50" ∷ "12345678.00" ∷ "1.5" ∷ "1.234" ∷ []) ≡ NoAmount ∷ NoAmount ∷ NoAmount ∷ NoAmount ∷ []
@@ -43,7 +48,8 @@ too-little : orderTexts ("" ∷ "." ∷ "150" ∷ ".5" ∷ []) ≡ NoAmount ∷ 
 unfolding textOf together number numberAfter digit
 too-little = refl
 
-sum-texts : sumTexts ("00000000000.00" ∷ "99999999999.99" ∷ "000000000000.00" ∷ []) ≡ amount 0 ∷ amount 9_999_999_999_999 ∷ NoAmount ∷ []
+sum-texts : sumTexts ("0.00" ∷ "175.50" ∷ "99999999999.99" ∷ "00175.50" ∷ "00.00" ∷ "100000000000.00" ∷ [])
+    ≡ amount 0 ∷ amount 17_550 ∷ amount 9_999_999_999_999 ∷ NoAmount ∷ NoAmount ∷ NoAmount ∷ []
 unfolding textOf together number numberAfter digit
 sum-texts = refl
 

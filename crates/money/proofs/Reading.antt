@@ -1,10 +1,10 @@
 -- An amount's text: when it is too short, when it has its point, and how much it can read.
 -- Assumes nothing.
 use mathlib.Core.Path.{_≡_, refl}
+use mathlib.Core.Bool.{Bool, true, false, _&&_}
 use mathlib.Core.List.{List}
 use Prim.Native.Nat.{ℕ, _+_, _-_, _^_, _<_, _≤_}
 use native.Mathlib.Omega.{arith}
-use borrow.Author.Tests.{eq-eqb, ne-eqb}
 use lib.Dec.{eqb}
 use lib.ListN.{length, getD}
 use lib.Pow.{pow-add}
@@ -15,25 +15,28 @@ use Rattle.text.specs.declared.number.Number.the-variants.{Of, Not}
 use Rattle.text.proofs.Branches.{cond-either}
 use Rattle.text.proofs.Digits.{number-bound}
 use Rattle.money.specs.Money.{orderCap, sumCap, groszeOf, AtMost}
-use Rattle.money.specs.Text.{together, textOf, orderText, sumText}
+use Rattle.money.specs.Text.{together, noLeadingZero, textOf, orderText, sumText}
 use Rattle.money.specs.declared.AmountRead.{AmountRead}
 use Rattle.money.specs.declared.AmountRead.the-variants.{Is as AmountIs, Not as NoAmount}
 
 module _ (most : ℕ) (s : List ℕ) where
+  abbrev isShaped : Bool
+  isShaped = eqb (getD s (length s - 3) 0) 0x2E && noLeadingZero (part 0 (length s - 3) s)
+
   pub too-short : length s < 3 → NoAmount ≡ textOf most s
   unfolding textOf together number
   too-short h =
       let nothing-before : length s - 3 ≡ 0 = omega arith in
-      rw nothing-before (cond-either (λ r. NoAmount ≡ r) (eqb (getD s 0 0) 0x2E) NoAmount NoAmount (λ t. refl) (λ t. refl))
+      cond-either (λ r. NoAmount ≡ r) isShaped (together (number 1 most (part 0 (length s - 3) s)) (number 2 2 (part (length s - 2) (length s) s))) NoAmount (λ t. rw nothing-before) (λ t. refl)
 
-  pub without-point : (getD s (length s - 3) 0 ≡ 0x2E → ⊥) → NoAmount ≡ textOf most s
+  pub not-shaped : isShaped ≡ false → NoAmount ≡ textOf most s
   unfolding textOf
-  without-point h = rw (ne-eqb _ _ h)
+  not-shaped h = rw h
 
-  pub with-point : getD s (length s - 3) 0 ≡ 0x2E
+  pub shaped : isShaped ≡ true
       → together (number 1 most (part 0 (length s - 3) s)) (number 2 2 (part (length s - 2) (length s) s)) ≡ textOf most s
   unfolding textOf
-  with-point h = rw (eq-eqb _ _ h)
+  shaped h = rw h
 
 -- What so many digits before the point and two behind it can read at most.
 pub digits-bound : (most : ℕ) (zlote grosze : Number) → Below (10 ^ most) zlote → Below (10 ^ 2) grosze
@@ -46,7 +49,7 @@ digits-bound most Not grosze z g = tt
 pub text-bound : (most : ℕ) (s : List ℕ) → AtMost (10 ^ (most + 2) - 1) (textOf most s)
 unfolding textOf
 text-bound most s =
-    cond-either (λ r. AtMost (10 ^ (most + 2) - 1) r) (eqb (getD s (length s - 3) 0) 0x2E) _ NoAmount
+    cond-either (λ r. AtMost (10 ^ (most + 2) - 1) r) (isShaped most s) _ NoAmount
     (λ t. digits-bound most (number 1 most (part 0 (length s - 3) s)) (number 2 2 (part (length s - 2) (length s) s))
     (number-bound 1 most (part 0 (length s - 3) s)) (number-bound 2 2 (part (length s - 2) (length s) s)))
     (λ t. tt)

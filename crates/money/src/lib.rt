@@ -1,11 +1,13 @@
 // Money in whole grosze: amounts (K) and fees (O), two types with their caps, tests and constructors, which nothing adds to each other.
 // The texts of an order's amount and of a sum.
 ghost use mathlib.Core.Path.{_≡_};
+ghost use mathlib.Core.Bool.{_&&_};
 ghost use Prim.Native.Nat.{_+_, _-_, _^_, _≤_};
+ghost use lib.Dec.{eqb};
 ghost use Rattle.text.specs.Number.{Below};
 ghost use Rattle.money.specs.Money.{amount, fee, orderCap, sumCap, isOrderAmount, isOrderFee, isSum, isTransfer, isTotal};
 ghost use Rattle.money.specs.Money.{WithinOrder, WithinSum, WithinTotal, sumOf, groszeIn, moneyOfSum, asTransfer, isAmount, groszeOf, AtMost};
-ghost use Rattle.money.specs.Text.{together, textOf, orderText, sumText};
+ghost use Rattle.money.specs.Text.{together, noLeadingZero, textOf, orderText, sumText};
 use text::bytes::byte_at;
 use text::bytes::slice;
 use text::number;
@@ -297,12 +299,20 @@ fn read(text: &[u8], most: usize) -> AmountRead
     if end < 3 {
         return AmountRead::Not;
     }
-    if byte_at(text, end - 3) != b'.' {
+    let whole = slice(text, 0, end - 3);
+    if !is_shaped(byte_at(text, end - 3), whole) {
         return AmountRead::Not;
     }
-    let zlote = number::read(slice(text, 0, end - 3), 1, most);
+    let zlote = number::read(whole, 1, most);
     let grosze = number::read(slice(text, end - 2, end), 2, 2);
     put_together(zlote, grosze)
+}
+
+// Is it a point, and the digits before it without a leading zero?
+fn is_shaped(point: u8, zlote: &[u8]) -> bool
+    ensures { λ r. ⌜ r ≡ (eqb point 0x2E && noLeadingZero (now (zlote .entry))) ⌝ }
+{
+    point == b'.' && (zlote.len() == 1 || byte_at(zlote, 0) != b'0')
 }
 
 // Zlote and grosze together.

@@ -1,22 +1,34 @@
--- `money::read` is `textOf`: the definition's point and its two numbers, each from the function that reads it.
-use borrow.Author.Needs.{needs}
+-- `money::read` is `textOf`: the definition's shape and its two numbers, each from the function that judges or reads it.
+use mathlib.Core.Path.{sym, _∙_}
+use mathlib.Core.Bool.{_&&_}
 use native.Mathlib.Omega.{arith}
+use borrow.Author.Needs.{needs}
+use borrow.Author.Tests.{not-true, not-false}
+use lib.Dec.{eqb}
 use Rattle.text.proofs.Digits.{tens-rise, below-larger}
-use Rattle.money.proofs.Reading.{too-short, without-point, with-point, digits-bound}
+use Rattle.money.specs.Text.{noLeadingZero}
+use Rattle.money.proofs.Reading.{too-short, not-shaped, shaped, digits-bound}
 use Rattle.money.proofs.read.Statement.{statement}
 use Rattle.money.proofs.read.Tie as tie
 
 returns : tie.Need-returns
 returns c = (too-short _ _ (c .if1 .taken), tt)
 
+slice-requires : tie.Need-slice-requires
+slice-requires c κs = search needs
+
 byte-at-requires : tie.Need-byte-at-requires
 byte-at-requires c κs = search needs
 
-returns-2 : tie.Need-returns-2
-returns-2 c = (without-point _ _ (rw (c .before .byte-at .ensures) at (c .if2 .taken)), tt)
+is-shaped-requires : tie.Need-is-shaped-requires
+is-shaped-requires c κs = search needs
 
-slice-requires : tie.Need-slice-requires
-slice-requires c κs = search needs
+returns-2 : tie.Need-returns-2
+returns-2 c =
+    let asked = c .before in
+    let start = asked .before .before .before .before .before in
+    let is = asked .is-shaped .ensures ∙ (λ i. eqb (asked .before .byte-at .ensures i) 0x2E && noLeadingZero (asked .before .before .slice .ensures i)) in
+    (not-shaped (start .args .most) (start .args .text .now) (sym is ∙ not-true _ (c .if2 .taken)), tt)
 
 read-requires : tie.Need-read-requires
 read-requires c κs = search needs
@@ -39,10 +51,13 @@ returns-3 : tie.Need-returns-3
 returns-3 c =
     let zlote = c .before .before .before .read in
     let grosze = c .before .read2 in
-    let pointed = c .before .before .before .before .before in
-    let start = pointed .before .before .before .before in
+    let fits = c .before .before .before .before in
+    let asked = fits .before in
+    let start = asked .before .before .before .before .before in
     let most = start .args .most in
-    let by-parts = with-point most (start .args .text .now) (rw (pointed .before .byte-at .ensures) at (pointed .if2 .left)) in (
+    let is = asked .is-shaped .ensures ∙ (λ i. eqb (asked .before .byte-at .ensures i) 0x2E && noLeadingZero (asked .before .before .slice .ensures i)) in
+    let by-parts = shaped most (start .args .text .now) (sym is ∙ not-false _ (fits .if2 .left)) in
+    let whole = asked .before .before .slice .ensures in (
       cc,
       rw (c .put-together .ensures) (digits-bound most (zlote .result) (grosze .result) (zlote .ensures .1) (grosze .ensures .1)),
     )
@@ -52,9 +67,10 @@ read-spec =
     tie.close
     (tie.spec
     returns
-    byte-at-requires
-    returns-2
     slice-requires
+    byte-at-requires
+    is-shaped-requires
+    returns-2
     read-requires
     sub-slice
     slice-requires-2
