@@ -1,5 +1,6 @@
 -- Laws of what is written.
 pub mod Spelling
+pub mod ReadDigits
 pub mod Putting
 pub mod FourPieces
 pub mod ReadingBack
@@ -7,3 +8,5 @@ pub mod WellFormed
 pub mod Plain
 pub mod FullLines
 pub mod Answers
+pub mod MoneySpelled
+pub mod Examples

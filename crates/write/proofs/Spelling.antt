@@ -30,11 +30,11 @@ digit-is : (d : ℕ) → d < 10 → digit (0x30 + d) ≡ true
 unfolding digit
 digit-is d h = both-yes (leb 0x30 (0x30 + d)) (leb (0x30 + d) 0x39) (le-leb 0x30 (0x30 + d) (omega arith)) (le-leb (0x30 + d) 0x39 (omega arith))
 
-of-same : (n m : ℕ) → _≡_ {A = Number} (Of n) (Of m) → n ≡ m
+pub of-same : (n m : ℕ) → _≡_ {A = Number} (Of n) (Of m) → n ≡ m
 unfolding valueOf
 of-same n m e = ap valueOf e
 
-not-of : (m : ℕ) → _≡_ {A = Number} Not (Of m) → ⊥
+pub not-of : (m : ℕ) → _≡_ {A = Number} Not (Of m) → ⊥
 unfolding isNumber
 not-of m e = false≢true (ap isNumber e)
 
@@ -84,7 +84,7 @@ some-place n =
     (λ large. rw (one-place-more n (ltb-false n 10 large)) (omega arith))
 
 -- `suc` and `+ 1`
-tens : (k : ℕ) → 10 ^ suc k ≡ 10 ^ k * 10
+pub tens : (k : ℕ) → 10 ^ suc k ≡ 10 ^ k * 10
 tens k = ap (λ (j : ℕ). 10 ^ j) (sym (add-one k)) ∙ ten-more k
 
 places-within : (f n : ℕ) → n ≤ f → n < 10 ^ placesWithin f n

@@ -1,4 +1,6 @@
 // Writing into lent outputs: bytes, texts and numbers, each at its place; and what a writer answers.
+pub mod grosze;
+
 ghost use mathlib.Core.Path.{_≡_};
 ghost use mathlib.Core.List.{[], _∷_, _++_};
 ghost use Prim.Native.Nat.{_+_, _≤_};
