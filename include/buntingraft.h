@@ -22,7 +22,7 @@
  *          A fresh book is made by buntingraft_make_empty.
  *   name, file, title, id, own, source, journal
  *          Bytes that are only read, with no terminating zero.
- *   output Bytes that a report is written into.
+ *   output Bytes that a report or money is written into.
  *   codes  Numbers of 64 bits that are only read.
  *
  * Each is a pointer and a number of bytes, or of codes. The pointer is not null, even where the number is 0, and all of it can
@@ -138,14 +138,17 @@ struct buntingraft_reply buntingraft_make_empty(uint8_t *book, size_t book_lengt
  *   125  Is header field 8 (benefit date) within 30 days of today on either side?
  *   126  Is header field 11 (order count) 1 to 6 digits?
  *   127  Is it at least 1?
- *   130  Does header field 12 (sum) read as a sum: 1 to 11 digits, a point, 2 digits?
+ *   130  Does header field 12 (sum) read as a sum: 1 to 11 digits without a leading zero, a point, 2 digits?
  *   131  Is it above zero?
  *   901  Has every record line R fields and no stray CR or LF, its first field `2`, its second 1 to 6 digits counting 1, 2, 3 ..?
- *   902  Does every record's field 3 read as an amount, 1 to 7 digits, a point, 2 digits, and above zero?
+ *   902  Does every record's field 3 read as an amount, 1 to 7 digits without a leading zero, a point, 2 digits, and above
+ *        zero?
  *   129  Are there as many record lines as header field 11 says?
  *   132  Do the amounts add up to header field 12?
  *   903  Are there fewer than 32 shipments in the book?
  *   904  Do the orders fit, with those present, in 2,048 rows?
+ *
+ * A single zero before the point is no leading zero: 0.50 reads as 50 grosze, 00.50 and 007.50 do not read.
  *
  * A faulty order is no refusal: it is taken in as Faulty, by the first of these that its record has. Lengths are in code points.
  *
@@ -338,6 +341,16 @@ struct buntingraft_reply buntingraft_write_rkf(const uint8_t *own, size_t own_le
 struct buntingraft_reply buntingraft_write_ope(const uint8_t *book, size_t book_length, const uint8_t *id, size_t id_length,
                                                const uint8_t *own, size_t own_length, uint64_t created,
                                                const uint64_t *codes, size_t codes_count, uint8_t *output, size_t output_length);
+
+/*
+ * Writes money at the start of `output` in its one spelling, that in which order files are read: zlote without a leading zero, a
+ * point, two digits of grosze, as 175.50, 0.05 and 0.00. It takes any number of grosze, and at most 21 bytes. No zero byte is
+ * put behind it. Done: the number of bytes written, 0. The bytes of the output behind them stay as they are, and after a refusal
+ * all of them do.
+ *
+ *    30  Is the output long enough?
+ */
+struct buntingraft_reply buntingraft_write_money(uint64_t grosze, uint8_t *output, size_t output_length);
 
 /*
  * Makes every call of a journal in an empty book, one after the other, and tells every reply: the calls do what the same calls

@@ -126,6 +126,7 @@ static void write_rkf(void) {
 static void write_ope(void) {
     reply = buntingraft_write_ope(BOOK, ID, BYTES("PP0000000003"), 20201007131500, codes, 10, output, sizeof output);
 }
+static void write_money(void) { reply = buntingraft_write_money(UINT64_MAX, output, sizeof output); }
 static void replay(void) { reply = buntingraft_replay(BOOK, journal, journal_length, answers, CALLS); }
 static void book_bytes(void) { reply.first = buntingraft_book_bytes(); }
 
@@ -192,6 +193,7 @@ static void on_one_shipment(void) {
     expect("intake of 2,048 orders", BUNTINGRAFT_DONE, ORDERS, intake);
     expect("intake of them again", BUNTINGRAFT_REFUSED, 101, intake);
     expect("write_rkf", BUNTINGRAFT_DONE, 64, write_rkf);
+    expect("write_money", BUNTINGRAFT_DONE, 21, write_money);
     expect("write_ope of 204 orders", BUNTINGRAFT_DONE, OPE_LENGTH, write_ope);
     amount = 100 * ORDERS + 1;
     expect("transfer of K", BUNTINGRAFT_DONE, 0, transfer_amounts);

@@ -60,15 +60,27 @@ static struct buntingraft_reply ope(const uint8_t *book, size_t book_length) {
     return reply;
 }
 
+/* Grosze in zlote, spelled as in the insurer's files. */
+static const char *zlote(uint64_t grosze, char text[22]) {
+    struct buntingraft_reply reply = buntingraft_write_money(grosze, (uint8_t *)text, 21);
+    text[reply.first] = '\0';
+    return text;
+}
+
+/* Prints the four sums of a money. */
+static void print_sums(char money, uint64_t accepted, uint64_t held, uint64_t free, uint64_t left) {
+    char text[4][22]; /* no number of grosze takes more than 21 bytes */
+    printf("%-24s %c accepted %s, held %s, free %s, left %s\n", "", money, zlote(accepted, text[0]), zlote(held, text[1]),
+           zlote(free, text[2]), zlote(left, text[3]));
+}
+
 /* Prints the balance sheet of a book with one shipment, and holds it to the table: all has left, nothing is held or free. */
 static struct buntingraft_reply sheet(const uint8_t *book, size_t book_length) {
     struct buntingraft_row row = {.id_len = 0};
     struct buntingraft_totals totals = {.k_accepted = 0};
     struct buntingraft_reply reply = buntingraft_sheet(book, book_length, &row, 1, &totals);
-    printf("%-24s K accepted %" PRIu64 ", held %" PRIu64 ", free %" PRIu64 ", left %" PRIu64 "\n", "", row.k_accepted, row.k_held,
-           row.k_free, row.k_left);
-    printf("%-24s O accepted %" PRIu64 ", held %" PRIu64 ", free %" PRIu64 ", left %" PRIu64 "\n", "", row.o_accepted, row.o_held,
-           row.o_free, row.o_left);
+    print_sums('K', row.k_accepted, row.k_held, row.k_free, row.k_left);
+    print_sums('O', row.o_accepted, row.o_held, row.o_free, row.o_left);
     int right = row.k_accepted == 17650 && row.k_held == 0 && row.k_free == 0 && row.k_left == 17650 && row.o_accepted == 1050 &&
                 row.o_held == 0 && row.o_free == 0 && row.o_left == 1050 && totals.k_left == 17650 && totals.o_left == 1050;
     replies_wrong += !right;

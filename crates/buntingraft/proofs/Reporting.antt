@@ -1,4 +1,4 @@
--- A report that was written or refused, as an export tells it.
+-- What was written or refused, as an export tells it.
 -- Assumes nothing.
 use mathlib.Core.Path.{_≡_, _∙_, ap}
 use mathlib.Core.List.{List}

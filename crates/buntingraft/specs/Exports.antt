@@ -1,5 +1,5 @@
 -- What the exports ensure: the reply is the call's answer in three numbers (`replyOf`), and the memory is as the call's own promise has it (`Does`).
--- `Plays` says both of a call; making an empty book, a return, a sheet and a report have a record here.
+-- `Plays` says both of a call; making an empty book, a return, a sheet and what is written have a record here.
 use mathlib.Core.Path.{_≡_}
 use mathlib.Core.Bool.{true, false}
 use mathlib.Core.List.{List}
@@ -42,7 +42,7 @@ pub record Sheets (book : List ℕ) (table : List SheetRow) (totals : Totals) (r
   pub rows : table′ ≡ sheetOf (readBook book) table totals .table
   pub sums : totals′ ≡ sheetOf (readBook book) table totals .totals
 
--- A report answers the number of bytes written, or a refusal. The output is as it leaves it.
+-- A writer answers the number of bytes written, or a refusal. The output is as it leaves it.
 unfoldable pub replyToWriting : Writing → Reply
 replyToWriting (writing.Written length) = doneWith length 0
 replyToWriting (writing.Refused number) = refusedWith number

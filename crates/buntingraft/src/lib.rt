@@ -15,13 +15,17 @@ use sheet::SheetRow;
 use sheet::Sheeting;
 use sheet::Totals;
 use write::Writing;
+use write::grosze::write_money;
 ghost use mathlib.Core.Path.{_≡_};
+ghost use mathlib.Core.List.{[]};
 ghost use Rattle.epe.specs.Ident.{identOf};
 ghost use Rattle.model.specs.Calls.{GoAhead, Pair, Close, OnOrder, Intake, Transfer, On};
 ghost use Rattle.model.specs.declared.Deed.the-variants.{Post, Pay, MarkUndelivered, Withdraw};
 ghost use Rattle.memory.specs.Layout.{size};
 ghost use Rattle.memory.specs.Read.{readBook};
 ghost use Rattle.book.specs.Reply.{Plays};
+ghost use Rattle.write.specs.Money.{moneyText};
+ghost use Rattle.write.specs.Written.{writtenAfter};
 ghost use Rattle.report.specs.Rkf.{rkfWritten};
 ghost use Rattle.report.specs.Ope.{opeWritten};
 ghost use Rattle.buntingraft.specs.Exports.{replyToSheet, Makes, Returns, Sheets, replyToWriting, TellsWriting};
@@ -159,7 +163,15 @@ pub extern "C" fn buntingraft_write_ope(
     tell_writing(write_ope(book, id, own, created, codes, output))
 }
 
-// What a report says, in three numbers.
+// Writes money in its one spelling.
+#[no_mangle]
+pub extern "C" fn buntingraft_write_money(grosze: u64, output: &mut [u8]) -> Reply
+    ensures { λ r. ⌜ TellsWriting (writtenAfter [] (moneyText grosze) (now (output .entry))) r (now (output .exit)) ⌝ }
+{
+    tell_writing(write_money(grosze, output))
+}
+
+// What a writer says, in three numbers.
 fn tell_writing(writing: Writing) -> Reply
     ensures { λ r. ⌜ r ≡ replyToWriting writing ⌝ }
 {
