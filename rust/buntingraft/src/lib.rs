@@ -111,6 +111,7 @@ mod question;
 mod refusal;
 mod report;
 mod sheet;
+mod spelling;
 mod sys;
 
 pub use answer::{Accepted, Pairing, Returned};
@@ -121,6 +122,7 @@ pub use question::{Call, Question};
 pub use refusal::Refusal;
 pub use report::{write_rkf, write_rkf_into};
 pub use sheet::Sheet;
+pub use spelling::{write_money, write_money_into};
 pub use sys::{Profile, Reply, SheetRow, Totals};
 
 /// How many bytes a book takes.
@@ -137,3 +139,7 @@ pub const MOST_RKF_BYTES: usize = 83;
 /// How many bytes an OPE has at most, so that an output of as many is enough for
 /// any shipment's.
 pub const MOST_OPE_BYTES: usize = 32_677;
+
+/// How many bytes money has at most as text, so that an output of as many is
+/// enough for any.
+pub const MOST_MONEY_BYTES: usize = 21;

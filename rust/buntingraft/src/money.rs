@@ -1,8 +1,10 @@
 //! The two moneys, which never add, and the routes by which they go back.
 
+use crate::spelling::write_money;
 use std::fmt;
 
-/// Grosze of K, the orders' amounts. Shown in zloty.
+/// Grosze of K, the orders' amounts. Shown in zloty, as
+/// [`write_money`](crate::write_money) spells it.
 ///
 /// ```
 /// assert_eq!(buntingraft::Amount(17_550).to_string(), "175.50");
@@ -11,7 +13,8 @@ use std::fmt;
 #[derive(Clone, Copy, Debug, Default, PartialEq, Eq, PartialOrd, Ord, Hash)]
 pub struct Amount(pub u64);
 
-/// Grosze of O, the contractor's fees. Shown in zloty.
+/// Grosze of O, the contractor's fees. Shown in zloty, as
+/// [`write_money`](crate::write_money) spells it.
 ///
 /// ```
 /// assert_eq!(buntingraft::Fee(1_050).to_string(), "10.50");
@@ -20,20 +23,15 @@ pub struct Amount(pub u64);
 #[derive(Clone, Copy, Debug, Default, PartialEq, Eq, PartialOrd, Ord, Hash)]
 pub struct Fee(pub u64);
 
-/// Writes grosze as zloty, a point and two digits.
-fn write_zloty(grosze: u64, f: &mut fmt::Formatter<'_>) -> fmt::Result {
-    f.pad(&format!("{}.{:02}", grosze / 100, grosze % 100))
-}
-
 impl fmt::Display for Amount {
     fn fmt(&self, f: &mut fmt::Formatter<'_>) -> fmt::Result {
-        write_zloty(self.0, f)
+        f.pad(&write_money(self.0))
     }
 }
 
 impl fmt::Display for Fee {
     fn fmt(&self, f: &mut fmt::Formatter<'_>) -> fmt::Result {
-        write_zloty(self.0, f)
+        f.pad(&write_money(self.0))
     }
 }
 

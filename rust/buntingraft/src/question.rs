@@ -34,6 +34,8 @@ pub enum Call {
     WriteRkf,
     /// The report on a shipment's faulty orders (OPE) is written.
     WriteOpe,
+    /// Money is written as text.
+    WriteMoney,
 }
 
 /// A question that a call asks, and its number.
@@ -47,7 +49,7 @@ pub struct Question {
 
 impl Call {
     /// Every call.
-    pub const ALL: [Call; 14] = [
+    pub const ALL: [Call; 15] = [
         Call::MakeEmpty,
         Call::Intake,
         Call::Transfer,
@@ -62,6 +64,7 @@ impl Call {
         Call::Sheet,
         Call::WriteRkf,
         Call::WriteOpe,
+        Call::WriteMoney,
     ];
 
     /// The questions that this call asks. A return asks 24 of ZWR, and 19 and
@@ -79,6 +82,7 @@ impl Call {
             Call::Sheet => SHEET,
             Call::WriteRkf => WRITE_RKF,
             Call::WriteOpe => WRITE_OPE,
+            Call::WriteMoney => WRITE_MONEY,
         }
     }
 }
@@ -100,6 +104,7 @@ impl fmt::Display for Call {
             Call::Sheet => "sheet",
             Call::WriteRkf => "write RKF",
             Call::WriteOpe => "write OPE",
+            Call::WriteMoney => "write money",
         })
     }
 }
@@ -167,7 +172,8 @@ const INTAKE: &[Question] = &[
     ask(127, "Is it at least 1?"),
     ask(
         130,
-        "Does header field 12 (sum) read as a sum: 1 to 11 digits, a point, 2 digits?",
+        "Does header field 12 (sum) read as a sum: 1 to 11 digits without a leading zero, \
+         a point, 2 digits?",
     ),
     ask(131, "Is it above zero?"),
     ask(
@@ -177,8 +183,8 @@ const INTAKE: &[Question] = &[
     ),
     ask(
         902,
-        "Does every record's field 3 read as an amount, 1 to 7 digits, a point, 2 digits, \
-         and above zero?",
+        "Does every record's field 3 read as an amount, 1 to 7 digits without a leading zero, \
+         a point, 2 digits, and above zero?",
     ),
     ask(
         129,
@@ -264,6 +270,8 @@ const WRITE_OPE: &[Question] = &[
     ),
     LONG_ENOUGH,
 ];
+
+const WRITE_MONEY: &[Question] = &[LONG_ENOUGH];
 
 #[cfg(test)]
 mod tests {

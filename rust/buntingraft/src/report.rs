@@ -139,15 +139,15 @@ fn ope_reply(
     }
 }
 
-/// The whole file of a call that writes at most so many bytes.
-fn whole(
+/// The whole text of a call that writes at most so many bytes.
+pub(crate) fn whole(
     most: usize,
     write: impl FnOnce(&mut [u8]) -> Result<usize, Refusal>,
 ) -> Result<Vec<u8>, Refusal> {
-    let mut file = vec![0; most];
-    let length = write(&mut file)?;
-    file.truncate(length);
-    Ok(file)
+    let mut text = vec![0; most];
+    let length = write(&mut text)?;
+    text.truncate(length);
+    Ok(text)
 }
 
 #[cfg(test)]

@@ -221,6 +221,12 @@ unsafe extern "C" {
         output_length: usize,
     ) -> Reply;
 
+    pub(crate) fn buntingraft_write_money(
+        grosze: u64,
+        output: *mut u8,
+        output_length: usize,
+    ) -> Reply;
+
     pub(crate) fn buntingraft_replay(
         book: *mut u8,
         book_length: usize,

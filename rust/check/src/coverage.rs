@@ -3,7 +3,8 @@
 
 use crate::archive::kind;
 use crate::naming::has_long_date;
-use crate::report::{Report, Written};
+use crate::output::Written;
+use crate::report::Report;
 use crate::reported::Reported;
 use crate::sheet::Taken;
 use buntingraft::{Call, NotReplayed};
@@ -92,14 +93,19 @@ impl Coverage {
     /// Counts a report, an OPE of this book; of one that was written also what
     /// stands in it.
     pub fn note_report(&mut self, report: &Report, book: Option<&Book>, written: &Written) {
+        self.note_written(report.call(), written);
+        if written.is_ok() {
+            self.reported.note(report, book);
+        }
+    }
+
+    /// Counts what a kind of writer answered.
+    pub fn note_written(&mut self, call: Call, written: &Written) {
         let answer = match written {
             Ok(_) => Answer::Done,
             Err(number) => Answer::Refused(*number),
         };
-        self.note_answer(report.call(), &answer);
-        if written.is_ok() {
-            self.reported.note(report, book);
-        }
+        self.note_answer(call, &answer);
     }
 
     /// Counts a replay.
@@ -236,12 +242,14 @@ impl fmt::Display for Outcome {
 impl fmt::Display for Coverage {
     fn fmt(&self, f: &mut fmt::Formatter<'_>) -> fmt::Result {
         let calls = self.calls(None);
-        let kinds = [Call::Intake, Call::Sheet, Call::WriteRkf, Call::WriteOpe];
-        let [files, sheets, rkf, ope] = kinds.map(|kind| self.calls(Some(kind)));
-        let reports = rkf + ope;
+        let of = |kind| self.calls(Some(kind));
+        let (files, sheets) = (of(Call::Intake), of(Call::Sheet));
+        let reports = of(Call::WriteRkf) + of(Call::WriteOpe);
+        let texts = of(Call::WriteMoney);
         writeln!(
             f,
-            "{calls} calls, {files} of them files, {sheets} sheets, {reports} reports"
+            "{calls} calls, {files} of them files, {sheets} sheets, {reports} reports, \
+             {texts} texts of money"
         )?;
         writeln!(f, "{} random lists, {} probes", self.lists, self.probes)?;
         writeln!(f, "{} pieces of memory that no calls made", self.memories)?;

@@ -152,7 +152,7 @@ impl Lent {
 }
 
 /// A refusal's number, if the call that was made asks a question with it.
-fn number_in_table(kind: buntingraft::Call, refusal: Refusal) -> Result<u32, String> {
+pub fn number_in_table(kind: buntingraft::Call, refusal: Refusal) -> Result<u32, String> {
     let asks = |number| kind.questions().iter().any(|q| q.number == number);
     if refusal.call() == kind && asks(refusal.number()) {
         Ok(refusal.number() as u32)

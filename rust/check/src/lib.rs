@@ -4,6 +4,7 @@
 //!
 //! - [`twin`], [`lent`], [`layout`]: lent memory and the reference's book side by side.
 //! - [`sheet`], [`lendings`]: the balance sheet of both, and what it is lent.
+//! - [`output`]: what both write into a lent output.
 //! - [`report`], [`reading`], [`reports`], [`values`]: the report files of both,
 //!   how they are read back, and which are asked for with what values.
 //! - [`journal`], [`replay`]: a list of calls as bytes, and its replay.
@@ -28,6 +29,7 @@ pub mod memory;
 pub mod naming;
 pub mod numbers;
 pub mod orders;
+pub mod output;
 pub mod probe;
 pub mod reading;
 pub mod replay;

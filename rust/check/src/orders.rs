@@ -19,8 +19,8 @@ const AMOUNTS: [u64; 6] = [1, 99, 2_550, 5_000, 10_000, 999_999_999];
 /// Texts that some field of a file takes and others do not, parted as in a
 /// file.
 const TEXTS: &str = concat!(
-    "| |x| x|x |0|1|2|3|000001|0.00|0.01|175.50|1.5|PR|SP_1|PP_99999|SP_123456|90-001|",
-    "900-01|ZUS|A|20201007|20201007120000",
+    "| |x| x|x |0|1|2|3|000001|0.00|0.01|00.00|007.50|175.50|1.5|PR|SP_1|PP_99999|",
+    "SP_123456|90-001|900-01|ZUS|A|20201007|20201007120000",
 );
 
 /// Bytes that part, end or spoil something.
@@ -97,7 +97,7 @@ pub fn spoilt_intake(mut draft: Draft, numbers: &mut Numbers) -> Call {
 
 /// The file with one of its parts spoilt.
 fn spoilt(mut draft: Draft, numbers: &mut Numbers) -> Draft {
-    match numbers.below(8) {
+    match numbers.below(10) {
         0 => draft.with_benefit_date(numbers.pick(&DAYS)),
         1 => draft.with_header(7, numbers.pick(&TIMES)),
         2 | 3 => draft.with_header(1 + numbers.below(12), &some_text(numbers)),
@@ -105,12 +105,28 @@ fn spoilt(mut draft: Draft, numbers: &mut Numbers) -> Draft {
             let order = 1 + numbers.below(draft.records.len());
             draft.with_field(order, 1 + numbers.below(3), &some_text(numbers))
         }
+        6 | 7 => with_zeros(draft, numbers),
         _ => {
             let (_, break_it) = numbers.pick(BREAKS);
             break_it(&mut draft);
             draft
         }
     }
+}
+
+/// The file with one to seven zeros before its sum or an order's amount, which
+/// then are none, or before its count or a record's number, which keep them up
+/// to six digits.
+fn with_zeros(mut draft: Draft, numbers: &mut Numbers) -> Draft {
+    let place = numbers.below(draft.records.len());
+    let text = match numbers.below(4) {
+        0 => &mut draft.header[11],
+        1 => &mut draft.records[place][2],
+        2 => &mut draft.header[10],
+        _ => &mut draft.records[place][1],
+    };
+    text.insert_str(0, &"0".repeat(1 + numbers.below(7)));
+    draft
 }
 
 /// Changes, takes out or puts in one byte.

@@ -3,6 +3,7 @@
 //! touched. What was written is also read back.
 
 use crate::lent::Lent;
+use crate::output::{self, Written};
 use crate::reading::{read, Values};
 use crate::telling::text;
 use reference::{Book, Row, State};
@@ -116,19 +117,6 @@ impl fmt::Display for Report {
     }
 }
 
-/// What a report answers: the file, or the number of its refusal.
-pub type Written = Result<Vec<u8>, u32>;
-
-/// How many bytes guard the output on either side.
-const GUARD: usize = 64;
-
-/// What the guards and so long an output hold before a report: no byte of a
-/// file's text.
-fn untouched(length: usize) -> Vec<u8> {
-    let places = 0..length + 2 * GUARD;
-    places.map(|place| 0x80 | place as u8).collect()
-}
-
 /// Writes a report of lent memory that must hold this book into an output of so
 /// many bytes, and gives what it answers, or the difference.
 pub fn write(
@@ -137,22 +125,9 @@ pub fn write(
     report: &Report,
     length: usize,
 ) -> Result<Written, String> {
-    let lent_output = GUARD..GUARD + length;
-    let mut output = untouched(length);
-    let mut after = output.clone();
-    let archive = lent.report(report, &mut output[lent_output.clone()])?;
-    let reference = report.by_reference(book, &mut after[lent_output]);
-    if archive != reference {
-        return Err(format!("archive {archive:?}, reference {reference:?}"));
-    }
-    if let Some(place) = (0..after.len()).find(|place| output[*place] != after[*place]) {
-        let [output, after] = [output, after].map(|bytes| text(&bytes[GUARD..][..length]));
-        return Err(format!(
-            "{archive:?}, and byte {place} ({GUARD} bytes lie before the output) differs: \
-             {output}\nnot {after}"
-        ));
-    }
-    let written = archive.map(|length| output[GUARD..][..length].to_vec());
+    let archive = |output: &mut [u8]| lent.report(report, output);
+    let reference = |output: &mut [u8]| report.by_reference(book, output);
+    let written = output::write(length, archive, reference)?;
     if let Ok(file) = &written {
         read_back(file, &report.values(book))?;
     }

@@ -6,8 +6,9 @@ use crate::coverage::Coverage;
 use crate::layout::LENGTH;
 use crate::ledger::Ledger;
 use crate::numbers::Numbers;
+use crate::output::Written;
 use crate::replay;
-use crate::report::{Report, Written};
+use crate::report::Report;
 use crate::sheet::{Lending, Taken};
 use crate::telling::{end_with, told};
 use crate::twin::Twin;
@@ -137,6 +138,21 @@ impl<'a> Run<'a> {
             let difference = format!("both answer {answer:?}, not {expected:?}");
             self.differs(&told(&call), &difference);
         }
+    }
+
+    /// Makes a call, whose answer is known from the papers, on a copy of the
+    /// book as it stands.
+    pub fn expect_aside(&mut self, call: &Call, expected: Answer) {
+        self.aside.copy_from(&self.twin);
+        let difference = match self.aside.call(call) {
+            Ok(answer) if answer == expected => {
+                let after = self.aside.book.as_ref();
+                return self.coverage.note(call, &answer, after);
+            }
+            Ok(answer) => format!("both answer {answer:?}, not {expected:?}"),
+            Err(difference) => difference,
+        };
+        self.differs(&told(call), &difference);
     }
 
     /// Replays the list so far from its beginning, as a journal, and near

@@ -2,7 +2,8 @@
 
 use crate::layout::sound_book;
 use crate::lent::{leaves_the_book, Lent};
-use crate::report::{self, Report, Written};
+use crate::output::Written;
+use crate::report::{self, Report};
 use crate::sheet::{self, Lending, Taken};
 use reference::{Answer, Book, Call};
 

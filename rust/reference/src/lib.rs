@@ -1,7 +1,7 @@
 //! A plain reference implementation of the settlement book for EPE shipments.
 //!
-//! Written from document 01 (the law), document 02 (its changes, of which A1 and
-//! A2 are in), document 00 (the demands), the decided readings and source
+//! Written from document 01 (the law), document 02 (its changes, of which A1 to
+//! A3 are in), document 00 (the demands), the decided readings and source
 //! document 003 sections 3, 5.1, 5.3.3.1, 5.4.3.1 and 6; from nothing else. It is
 //! meant to be read beside document 01: every question carries that document's
 //! words and number, in that document's order. Words of document 02 are marked as
@@ -19,6 +19,7 @@ pub mod book;
 pub mod calendar;
 pub mod file;
 pub mod name;
+mod output;
 pub mod report;
 pub mod sheet;
 pub mod text;
@@ -28,6 +29,7 @@ pub use file::{judge, read_file, Order, OrderFile, Profile};
 pub use name::{read_name, read_title, Name};
 pub use report::{rkf, rkf_into};
 pub use sheet::{SheetRow, Sums};
+pub use text::{write_money, write_money_into};
 
 /// "An order's amount is 1 to 999,999,999"; a fee is 0 to the same.
 pub const MOST_AMOUNT: u64 = 999_999_999;

@@ -5,6 +5,7 @@
 
 use crate::book::{Book, State};
 use crate::calendar::{is_real_date, is_time_of_day};
+use crate::output::write_to;
 use crate::text::is_identifier;
 
 /// "byte mark" (003, 3.3: EF BB BF)
@@ -144,13 +145,4 @@ fn line(fields: &[&[u8]]) -> Vec<u8> {
 /// after the last line."
 fn file(lines: &[Vec<u8>]) -> Vec<u8> {
     [MARK, &lines.join(&b"\r\n"[..])].concat()
-}
-
-/// "30 when the lent output is too short [...] Whatever writes to a lent
-/// output, here or later, answers the length written; bytes behind it, and
-/// after a refusal all, stay as they were."
-fn write_to(output: &mut [u8], file: &[u8]) -> Result<usize, u32> {
-    let written = output.get_mut(..file.len()).ok_or(30u32)?;
-    written.copy_from_slice(file);
-    Ok(file.len())
 }

@@ -1,5 +1,7 @@
 //! Digits, letters, amounts, sums and identifiers.
 
+use crate::output::write_to;
+
 /// "Letters are A-Z and a-z".
 pub fn is_letter(byte: u8) -> bool {
     byte.is_ascii_alphabetic()
@@ -29,11 +31,15 @@ fn read_money(text: &[u8], most_digits: usize) -> Option<u64> {
     let point = text.iter().position(|byte| *byte == b'.')?;
     let zlotys = &text[..point];
     let grosze = &text[point + 1..];
-    if are_digits(zlotys, 1, most_digits) && are_digits(grosze, 2, 2) {
-        Some(number(zlotys) * 100 + number(grosze))
-    } else {
-        None
+    if !are_digits(zlotys, 1, most_digits) || !are_digits(grosze, 2, 2) {
+        return None;
     }
+    // "Reading an amount or a sum now demands no leading zero except a single
+    // zero before the point" (document 02, A3)
+    if zlotys.starts_with(b"0") && zlotys != b"0" {
+        return None;
+    }
+    Some(number(zlotys) * 100 + number(grosze))
 }
 
 /// An amount: "Its text is 1 to 7 digits, a point, 2 digits [...] Either text
@@ -46,6 +52,17 @@ pub fn read_amount(text: &[u8]) -> Option<u64> {
 /// 9,999,999,999,999". Eleven digits cannot pass that cap.
 pub fn read_sum(text: &[u8]) -> Option<u64> {
     read_money(text, 11)
+}
+
+/// The text of a number of grosze: "each number of grosze has one text. [...]
+/// All writers, later ones too, use the same spelling." (document 02, A3)
+pub fn write_money(grosze: u64) -> String {
+    format!("{}.{:02}", grosze / 100, grosze % 100)
+}
+
+/// [`write_money`] into a lent output: gives the length written, or 30.
+pub fn write_money_into(grosze: u64, output: &mut [u8]) -> Result<usize, u32> {
+    write_to(output, write_money(grosze).as_bytes())
 }
 
 /// "A shipment identifier is two letters, then 1 to 15 letters or digits."

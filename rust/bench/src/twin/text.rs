@@ -12,10 +12,14 @@ pub fn number(text: &str, least: usize, most: usize) -> Option<u64> {
     })
 }
 
-/// The grosze that up to `most` digits, a point and two digits write.
+/// The grosze that up to `most` digits, a point and two digits write. A zero is
+/// the first of the digits only where it is the only one.
 pub fn grosze(text: &str, most: usize) -> Option<u64> {
     let (zlotys, grosze) = text.split_at_checked(text.len().checked_sub(3)?)?;
     let grosze = number(grosze.strip_prefix('.')?, 2, 2)?;
+    if zlotys.len() > 1 && zlotys.starts_with('0') {
+        return None;
+    }
     Some(number(zlotys, 1, most)? * 100 + grosze)
 }
 

@@ -61,6 +61,8 @@ const EDITS: &[(&str, &str, u64)] = &[
     ("|0|3|", "|0|0|", 127),
     ("175.50", "175.5", 130),
     ("175.50", "000000000175.50", 130),
+    ("175.50", "0175.50", 130),
+    ("175.50", "00.00", 130),
     ("175.50", "0.00", 131),
     ("2|2|", "2|3|", 901),
     ("2|2|", "3|2|", 901),
@@ -72,6 +74,8 @@ const EDITS: &[(&str, &str, u64)] = &[
     ("Lis", "L\ris", 901),
     ("|25.50", "|25.5", 902),
     ("|25.50", "|00000025.50", 902),
+    ("|25.50", "|025.50", 902),
+    ("|25.50", "|00.00", 902),
     ("|25.50", "|0.00", 902),
     ("|0|3|", "|0|4|", 129),
     ("175.50", "175.51", 132),
@@ -94,6 +98,58 @@ fn files_are_asked_alike() {
     let with_empty_line = FILE.to_owned() + "\r\n";
     assert_eq!(intake(NAME, &with_empty_line), Answer::Refused(901));
     assert_eq!(intake(NAME, ""), Answer::Refused(1));
+}
+
+/// Texts of money, and what the good file is refused with that has them as its
+/// sum, and as an amount; 0 where it is taken in.
+const MONEY: &[(&str, u64, u64)] = &[
+    ("0.00", 131, 902),
+    ("0.01", 132, 132),
+    ("0.99", 132, 132),
+    ("7.50", 132, 132),
+    ("25.50", 132, 0),
+    ("175.50", 0, 132),
+    ("9999999.99", 132, 132),
+    ("10000000.00", 132, 902),
+    ("99999999999.99", 132, 902),
+    ("100000000000.00", 130, 902),
+    ("x.00", 130, 902),
+];
+
+#[test]
+fn spellings_are_read_alike() {
+    for (text, sum, amount) in MONEY {
+        for zeros in 0..=13 {
+            let spelt = "0".repeat(zeros) + text;
+            let numbers = match zeros {
+                0 => [*sum, *amount],
+                _ => [130, 902],
+            };
+            for (from, number) in ["|175.50", "|25.50"].into_iter().zip(numbers) {
+                let answer = intake(NAME, &FILE.replacen(from, &format!("|{spelt}"), 1));
+                match number {
+                    0 => assert!(matches!(answer, Answer::Accepted(_)), "{spelt} {answer:?}"),
+                    _ => assert_eq!(answer, Answer::Refused(number), "{spelt} for {from}"),
+                }
+            }
+        }
+    }
+}
+
+#[test]
+fn counts_keep_their_zeros_alike() {
+    for zeros in 0..=7 {
+        let too_long = zeros > 5;
+        let zeros = "0".repeat(zeros);
+        for (from, to, number) in [
+            ("|0|3|", format!("|0|{zeros}3|"), 126),
+            ("2|2|", format!("2|{zeros}2|"), 901),
+        ] {
+            let answer = intake(NAME, &FILE.replacen(from, &to, 1));
+            let is_refused = answer == Answer::Refused(number);
+            assert_eq!(is_refused, too_long, "{to} {answer:?}");
+        }
+    }
 }
 
 #[test]

@@ -1,18 +1,21 @@
 //! Cases taken from the papers one by one: every question and every two, every
-//! boundary, every refusal, long titles, full books, sheets, report files,
-//! journals, ZS1 and the field engineer's card.
+//! boundary, every spelling of money, every refusal, long titles, full books,
+//! sheets, report files, money as text, journals, ZS1 and the field engineer's
+//! card.
 
 mod bytes;
 mod card;
 mod dates;
 mod fields;
 mod full;
+mod money;
 mod ope;
 mod questions;
 mod refusals;
 mod replay;
 mod rkf;
 mod sheet;
+mod spellings;
 mod titles;
 
 use crate::coverage::Coverage;
@@ -23,12 +26,14 @@ pub fn check(coverage: &mut Coverage) {
     bytes::check(coverage);
     dates::check(coverage);
     fields::check(coverage);
+    spellings::check(coverage);
     refusals::check(coverage);
     titles::check(coverage);
     full::check(coverage);
     sheet::check(coverage);
     rkf::check(coverage);
     ope::check(coverage);
+    money::check(coverage);
     replay::check(coverage);
     card::check(coverage);
 }

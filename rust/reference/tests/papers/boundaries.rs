@@ -93,7 +93,7 @@ fn windows_across_leap_days_and_years() {
 #[test]
 fn texts_of_money() {
     assert_eq!(read_amount(b"0.00"), Some(0));
-    assert_eq!(read_amount(b"0000000.00"), Some(0));
+    assert_eq!(read_amount(b"0000000.00"), None);
     assert_eq!(read_amount(b"9999999.99"), Some(999_999_999));
     assert_eq!(read_amount(b"10000000.00"), None);
     assert_eq!(read_sum(b"10000000.00"), Some(1_000_000_000));

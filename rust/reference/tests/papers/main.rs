@@ -8,4 +8,5 @@ mod lists;
 mod refusals;
 mod report;
 mod sheet;
+mod spellings;
 mod zs1;
