@@ -23,16 +23,16 @@ pub const MOST_SHIPMENTS: usize = 32;
 pub const MOST_ROWS: usize = 2_048;
 
 // Where the heads begin.
-const HEADS: usize = 64;
+pub const HEADS: usize = 64;
 
 // The bytes of a head.
-const HEAD_SIZE: usize = 64;
+pub const HEAD_SIZE: usize = 64;
 
 // Where the rows begin.
-const ROWS: usize = HEADS + HEAD_SIZE * MOST_SHIPMENTS;
+pub const ROWS: usize = HEADS + HEAD_SIZE * MOST_SHIPMENTS;
 
 // The bytes of a row.
-const ROW_SIZE: usize = 8;
+pub const ROW_SIZE: usize = 8;
 
 // The bytes of a book.
 pub const SIZE: usize = ROWS + ROW_SIZE * MOST_ROWS;

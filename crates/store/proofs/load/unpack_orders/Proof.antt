@@ -1,0 +1,106 @@
+-- `store::load::unpack_orders` puts order after order.
+use native.Mathlib.Omega.{arith}
+use Prim.Native.Nat.{_+_, _*_, _-_, _≤_}
+use mathlib.Core.Path.{_≡_}
+use borrow.Author.Needs.{needs}
+use Rattle.memory.proofs.Parts.{part-there}
+use Rattle.acts.specs.Inner.Place.{RowsStored}
+use Rattle.acts.proofs.RowsInTurn.{none-stored}
+use Rattle.store.specs.Inner.Unpack.{givenRow}
+use Rattle.store.proofs.Unpacking.{one-more-unpacked}
+use Rattle.store.proofs.load.unpack_orders.Statement.{statement}
+use Rattle.store.proofs.load.unpack_orders.Tie as tie
+
+abbrev Inv-loop : tie.InvT-loop
+Inv-loop memory₀ k n stored at done₀ memory done = RowsStored (givenRow stored at k) k done memory₀ memory × (done ≤ n)
+
+abbrev μ-loop : tie.MeasureT-loop
+μ-loop memory₀ k n stored at done₀ memory done = n - done
+
+loop-holds : tie.Need-loop-holds Inv-loop μ-loop
+loop-holds c = (none-stored, omega arith)
+
+mul-from : tie.Need-mul-from Inv-loop μ-loop
+mul-from c = search needs
+
+add-from : tie.Need-add-from Inv-loop μ-loop
+add-from c = search needs
+
+add-end : tie.Need-add-end Inv-loop μ-loop
+add-end c = search needs
+
+add-put-order : tie.Need-add-put-order Inv-loop μ-loop
+add-put-order c = search needs
+
+mul-put-order : tie.Need-mul-put-order Inv-loop μ-loop
+mul-put-order c = search needs
+
+add-put-order-2 : tie.Need-add-put-order-2 Inv-loop μ-loop
+add-put-order-2 c = search needs
+
+sub-put-order : tie.Need-sub-put-order Inv-loop μ-loop
+sub-put-order c = search needs
+
+part-put-order-start : tie.Need-part-put-order-start Inv-loop μ-loop
+part-put-order-start c = search needs
+
+part-put-order-end : tie.Need-part-put-order-end Inv-loop μ-loop
+part-put-order-end c = search needs
+
+put-order-requires : tie.Need-put-order-requires Inv-loop μ-loop
+put-order-requires c κs =
+    let turn = c .before .before in
+    let loop = turn .before .loop in
+    let start = turn .before .before .before .before in
+    let long = (part-there (start .args .stored .now) (start .args .at + 5 * loop .done) 5 (omega (arith, start .pre .2, turn .loop-test .taken))) .1 in
+    (omega (arith, start .pre .0, start .pre .1, loop .inv .0 .only .as-long, turn .loop-test .taken), omega (arith, long))
+
+add-done : tie.Need-add-done Inv-loop μ-loop
+add-done c = search needs
+
+loop-less : tie.Need-loop-less Inv-loop μ-loop
+loop-less c = search needs
+
+loop-again : tie.Need-loop-again Inv-loop μ-loop
+loop-again c =
+    let put = c .before .before in
+    let turn = put .before .before .before in
+    let loop = turn .before .loop in
+    let start = turn .before .before .before .before in
+    let row = part-there (start .args .stored .now) (start .args .at + 5 * loop .done) 5 (omega (arith, start .pre .2, turn .loop-test .taken)) in (
+      one-more-unpacked (start .args .stored .now) (start .args .at) (loop .inv .0) (row .0) (row .1) (omega (arith, start .pre .0, turn .loop-test .taken))
+          (rw (loop .inv .0 .only .as-long) (start .pre .1)) (put .put-order .ensures .1),
+      omega (arith, turn .loop-test .taken),
+    )
+
+same-length : tie.Need-same-length Inv-loop μ-loop
+same-length c = c .before .loop .inv .0 .only .as-long
+
+returns : tie.Need-returns Inv-loop μ-loop
+returns c =
+    let loop = c .before .loop in
+    let all : loop .done ≡ c .before .before .before .before .args .n = omega (arith, c .loop-test .left, loop .inv .1) in
+    rw all at (loop .inv .0)
+
+pub unpack-orders-spec : {M : Type 1} → statement M
+unpack-orders-spec =
+    tie.close
+    (tie.spec
+    Inv-loop
+    μ-loop
+    loop-holds
+    mul-from
+    add-from
+    add-end
+    add-put-order
+    mul-put-order
+    add-put-order-2
+    sub-put-order
+    part-put-order-start
+    part-put-order-end
+    put-order-requires
+    add-done
+    loop-less
+    loop-again
+    same-length
+    returns)
