@@ -1,5 +1,6 @@
 pub mod NeverUnread
 pub mod Listing
+pub mod StoredLists
 pub mod SheetAnswered
 pub mod JournalLaws
 pub mod CallOfEntry

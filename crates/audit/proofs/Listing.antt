@@ -21,16 +21,16 @@ use Rattle.audit.proofs.NeverUnread.{never-10, never-900}
 -- one call, on memory that holds a book
 module _ {book : Book} {before : List ℕ} {made : Made} (held : readBook before ≡ some book)
     (does : Does before (made .call) (made .answer) (made .memory)) where
-  left : readBook (made .memory) ≡ some (step book (made .call) .book)
+  pub left : readBook (made .memory) ≡ some (step book (made .call) .book)
   left = does .leaves book held
 
-  answered : made .answer ≡ step book (made .call) .answer
+  pub answered : made .answer ≡ step book (made .call) .answer
   answered = does .answers book held
 
-  leaves-alike : (money : Money) (ident : Ident) (j : ℕ) → leavesBytes money ident j before made ≡ leaves money ident j book (made .call)
+  pub leaves-alike : (money : Money) (ident : Ident) (j : ℕ) → leavesBytes money ident j before made ≡ leaves money ident j book (made .call)
   leaves-alike money ident j = rw (held, left, answered)
 
-  at-made : AtCall book (made .call) → AtMade before made
+  pub at-made : AtCall book (made .call) → AtMade before made
   at-made at = record {
     refused = λ refusal. does .unmoved (refusal-moves-nothing (made .answer) refusal);
     others = λ ident other. rw (held, left) (at .others ident other);
@@ -40,25 +40,25 @@ module _ {book : Book} {before : List ℕ} {made : Made} (held : readBook before
   }
 
 -- a chain of calls, and the book that each of them found
-data Follows : Book → List ℕ → List Made → Type 0 where
+pub data Follows : Book → List ℕ → List Made → Type 0 where
   ends : {book : Book} {start : List ℕ} → readBook start ≡ some book → Follows book start []
   goes : {book : Book} {start : List ℕ} {made : Made} {later : List Made} → readBook start ≡ some book
       → Does start (made .call) (made .answer) (made .memory) → Follows (step book (made .call) .book) (made .memory) later
       → Follows book start (made ∷ later)
 
-follows : (book : Book) (start : List ℕ) (made : List Made) → readBook start ≡ some book → Chain start made → Follows book start made
+pub follows : (book : Book) (start : List ℕ) (made : List Made) → readBook start ≡ some book → Chain start made → Follows book start made
 follows book start [] held chain = ends held
 follows book start (made ∷ later) held chain =
     goes held (chain .0) (follows (step book (made .call) .book) (made .memory) later (left held (chain .0)) (chain .1))
 
-points : {book : Book} {start : List ℕ} {made : List Made} → Follows book start made → (p : ℕ)
+pub points : {book : Book} {start : List ℕ} {made : List Made} → Follows book start made → (p : ℕ)
     → readBook (memoryAt start made p) ≡ some (run book (take p (callsOf made)))
 points (ends held) zero = held
 points (ends held) (suc p) = held
 points (goes held does later) zero = held
 points (goes held does later) (suc p) = points later p
 
-answers : {book : Book} {start : List ℕ} {made : List Made} → Follows book start made → map eventOf made ≡ events book (callsOf made)
+pub answers : {book : Book} {start : List ℕ} {made : List Made} → Follows book start made → map eventOf made ≡ events book (callsOf made)
 answers (ends held) = refl
 answers (goes held does later) = rw (answered held does, answers later)
 

@@ -1,4 +1,5 @@
 pub mod Listed
+pub mod StoredAndLoaded
 pub mod SheetAsAnswered
 pub mod Journal
 pub mod Replay
