@@ -18,11 +18,13 @@
  * What a caller lends
  *
  *   book   At least buntingraft_book_bytes() bytes. The whole state of a book is in them: they need no alignment, hold no
- *          pointer, and may be copied, written to disk and lent again elsewhere. Bytes behind that length stay as they are.
- *          A fresh book is made by buntingraft_make_empty.
- *   name, file, title, id, own, source, journal
+ *          pointer, and may be copied and lent again elsewhere. Bytes behind that length stay as they are. A fresh book is
+ *          made by buntingraft_make_empty. Such memory is of one version of the library: another may lay a book out
+ *          otherwise. Only stored bytes (buntingraft_store) travel between versions, and only they are to be kept in files:
+ *          a version that has another form of them refuses them with 32.
+ *   name, file, title, id, own, source, stored, journal
  *          Bytes that are only read, with no terminating zero.
- *   output Bytes that a report or money is written into.
+ *   output Bytes that a report, money or a stored book is written into.
  *   codes  Numbers of 64 bits that are only read.
  *
  * Each is a pointer and a number of bytes, or of codes. The pointer is not null, even where the number is 0, and all of it can
@@ -351,6 +353,34 @@ struct buntingraft_reply buntingraft_write_ope(const uint8_t *book, size_t book_
  *    30  Is the output long enough?
  */
 struct buntingraft_reply buntingraft_write_money(uint64_t grosze, uint8_t *output, size_t output_length);
+
+/* The most bytes that a stored book takes: 12,546. */
+uint64_t buntingraft_stored_bytes(void);
+
+/*
+ * Stores the book at the start of `output`, as bytes to be kept in a file: its shipments and their orders, and no byte of the
+ * memory that is free, so that equal books have equal bytes. docs/LAYOUT.md lays them out. The book is only read.
+ *
+ * Done: the number of bytes written, 0. These bytes are the stored book; those of the output behind them stay as they are, and
+ * after a refusal all of them do.
+ *
+ *    10  Is the book's memory long enough, and a sound book?
+ *    30  Is the output long enough?
+ */
+struct buntingraft_reply buntingraft_store(const uint8_t *book, size_t book_length, uint8_t *output, size_t output_length);
+
+/*
+ * Loads a stored book into the book's memory, whatever the memory held: a load never asks 10. `stored` is just the bytes that
+ * were written when the book was stored. A byte that is missing, or one more behind them, is 32, and so is a form other than
+ * the newest.
+ *
+ * Done: 0, 0, and the memory holds the book that was stored. Bytes behind the book's stay as they were. A refusal leaves every
+ * byte.
+ *
+ *    32  Are the bytes a whole stored book of the newest form, and a sound one?
+ *    30  Is the book's memory long enough?
+ */
+struct buntingraft_reply buntingraft_load(uint8_t *book, size_t book_length, const uint8_t *stored, size_t stored_length);
 
 /*
  * Makes every call of a journal in an empty book, one after the other, and tells every reply: the calls do what the same calls

@@ -46,6 +46,8 @@ static size_t journal_length;
 static struct buntingraft_reply answers[CALLS];
 static const uint64_t codes[10] = {308, 309, 310, 311, 312, 313, 314, 315, 316, 317};
 static uint8_t output[32677];
+static uint8_t stored[12546];
+static size_t stored_length;
 
 /* What the next call is given, and what it replied. */
 static uint64_t amount, order, route, money;
@@ -127,6 +129,9 @@ static void write_ope(void) {
     reply = buntingraft_write_ope(BOOK, ID, BYTES("PP0000000003"), 20201007131500, codes, 10, output, sizeof output);
 }
 static void write_money(void) { reply = buntingraft_write_money(UINT64_MAX, output, sizeof output); }
+static void stored_bytes(void) { reply.first = buntingraft_stored_bytes(); }
+static void store(void) { reply = buntingraft_store(BOOK, stored, sizeof stored); }
+static void load(void) { reply = buntingraft_load(BOOK, stored, stored_length); }
 static void replay(void) { reply = buntingraft_replay(BOOK, journal, journal_length, answers, CALLS); }
 static void book_bytes(void) { reply.first = buntingraft_book_bytes(); }
 
@@ -253,6 +258,17 @@ static void on_many_shipments(void) {
     expect("sheet of 32 shipments", BUNTINGRAFT_DONE, SHIPMENTS, sheet);
 }
 
+/* The book of as many shipments stored, and loaded over itself. */
+static void on_a_stored_book(void) {
+    expect("stored_bytes", BUNTINGRAFT_DONE, sizeof stored, stored_bytes);
+    expect("store of 32 shipments", BUNTINGRAFT_DONE, sizeof stored, store);
+    stored_length = sizeof stored - 1;
+    expect("load of all but a byte", BUNTINGRAFT_REFUSED, 32, load);
+    stored_length = sizeof stored;
+    expect("load of 32 shipments", BUNTINGRAFT_DONE, 0, load);
+    expect("sheet of them again", BUNTINGRAFT_DONE, SHIPMENTS, sheet);
+}
+
 /* The replay of a journal, in a book that is not empty and in one that is. */
 static void on_a_journal(void) {
     write_journal();
@@ -272,6 +288,7 @@ int main(void) {
     on_its_orders();
     on_its_returns();
     on_many_shipments();
+    on_a_stored_book();
     on_a_journal();
     return calls_wrong == 0 ? EXIT_SUCCESS : EXIT_FAILURE;
 }

@@ -1,5 +1,5 @@
 -- What the exports ensure: the reply is the call's answer in three numbers (`replyOf`), and the memory is as the call's own promise has it (`Does`).
--- `Plays` says both of a call; making an empty book, a return, a sheet and what is written have a record here.
+-- `Plays` says both of a call; making an empty book, a return, a sheet, what is written and loading have a record here.
 use mathlib.Core.Path.{_≡_}
 use mathlib.Core.Bool.{true, false}
 use mathlib.Core.List.{List}
@@ -15,6 +15,9 @@ use Rattle.book.specs.declared.reply.Reply.{Reply}
 use Rattle.write.specs.Written.{Wrote}
 use Rattle.write.specs.declared.Writing.{Writing}
 use Rattle.write.specs.declared.Writing.the-variants as writing
+use Rattle.store.specs.Unstored.{Loads}
+use Rattle.store.specs.declared.load.Loading.{Loading}
+use Rattle.store.specs.declared.load.Loading.the-variants as loading
 use Rattle.sheet.specs.Sheet.{sheetOf}
 use Rattle.sheet.specs.declared.Sheeting.{Sheeting}
 use Rattle.sheet.specs.declared.Sheeting.the-variants.{Filled, Refused}
@@ -50,3 +53,13 @@ replyToWriting (writing.Refused number) = refusedWith number
 pub record TellsWriting (wrote : Wrote) (reply : Reply) (output : List ℕ) : Type 0 where
   pub is-reply : reply ≡ replyToWriting (wrote .answer)
   pub text : output ≡ wrote .output
+
+-- A stored book was loaded, or not, and the answer is told.
+unfoldable pub replyToLoading : Loading → Reply
+replyToLoading loading.Loaded = doneWith 0 0
+replyToLoading (loading.Refused number) = refusedWith number
+
+pub record TellsLoading (before stored : List ℕ) (reply : Reply) (after : List ℕ) : Type 0 where
+  pub answer : Loading
+  pub loads : Loads before stored answer after
+  pub is-reply : reply ≡ replyToLoading answer

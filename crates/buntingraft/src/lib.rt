@@ -14,6 +14,10 @@ use report::rkf::write_rkf;
 use sheet::SheetRow;
 use sheet::Sheeting;
 use sheet::Totals;
+use store::MOST_STORED;
+use store::load::Loading;
+use store::load::load;
+use store::store;
 use write::Writing;
 use write::grosze::write_money;
 ghost use mathlib.Core.Path.{_≡_};
@@ -28,7 +32,8 @@ ghost use Rattle.write.specs.Money.{moneyText};
 ghost use Rattle.write.specs.Written.{writtenAfter};
 ghost use Rattle.report.specs.Rkf.{rkfWritten};
 ghost use Rattle.report.specs.Ope.{opeWritten};
-ghost use Rattle.buntingraft.specs.Exports.{replyToSheet, Makes, Returns, Sheets, replyToWriting, TellsWriting};
+ghost use Rattle.store.specs.Stored.{mostStored, storedInto};
+ghost use Rattle.buntingraft.specs.Exports.{replyToSheet, Makes, Returns, Sheets, replyToWriting, TellsWriting, replyToLoading, TellsLoading};
 
 // How many bytes a book takes.
 #[no_mangle]
@@ -169,6 +174,40 @@ pub extern "C" fn buntingraft_write_money(grosze: u64, output: &mut [u8]) -> Rep
     ensures { λ r. ⌜ TellsWriting (writtenAfter [] (moneyText grosze) (now (output .entry))) r (now (output .exit)) ⌝ }
 {
     tell_writing(write_money(grosze, output))
+}
+
+// How many bytes a stored book takes at most.
+#[no_mangle]
+pub extern "C" fn buntingraft_stored_bytes() -> u64
+    ensures { λ r. ⌜ r ≡ mostStored ⌝ }
+{
+    MOST_STORED as u64
+}
+
+// Stores the book.
+#[no_mangle]
+pub extern "C" fn buntingraft_store(book: &[u8], output: &mut [u8]) -> Reply
+    ensures { λ r. ⌜ TellsWriting (storedInto (readBook (now (book .entry))) (now (output .entry))) r (now (output .exit)) ⌝ }
+{
+    tell_writing(store(book, output))
+}
+
+// Loads a stored book.
+#[no_mangle]
+pub extern "C" fn buntingraft_load(book: &mut [u8], stored: &[u8]) -> Reply
+    ensures { λ r. ⌜ TellsLoading (now (book .entry)) (now (stored .entry)) r (now (book .exit)) ⌝ }
+{
+    tell_loading(load(book, stored))
+}
+
+// What loading says, in three numbers.
+fn tell_loading(loading: Loading) -> Reply
+    ensures { λ r. ⌜ r ≡ replyToLoading loading ⌝ }
+{
+    match loading {
+        Loading::Loaded => done(0, 0),
+        Loading::Refused(number) => refused(number),
+    }
 }
 
 // What a writer says, in three numbers.
