@@ -4,4 +4,5 @@ pub mod calls;
 pub mod files;
 pub mod reports;
 pub mod sheets;
+pub mod stores;
 pub mod twin;

@@ -4,6 +4,7 @@ mod books;
 mod on_books;
 mod on_files;
 mod on_reports;
+mod on_stores;
 mod table;
 mod timing;
 
@@ -22,5 +23,6 @@ fn main() {
     println!("{}", on_books::rows(&clock));
     println!("{}", on_books::sheets(&clock));
     println!("{}", on_reports::ope(&clock));
-    print!("{}", on_reports::rkf(&clock));
+    println!("{}", on_reports::rkf(&clock));
+    print!("{}", on_stores::stores(&clock));
 }

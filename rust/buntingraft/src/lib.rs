@@ -84,6 +84,28 @@
 //! # Ok::<(), buntingraft::Refusal>(())
 //! ```
 //!
+//! # A book kept in a file
+//!
+//! The memory of a book is of one version of the library; only stored bytes
+//! travel, from one machine and one version to another.
+//!
+//! ```
+//! use buntingraft::{Book, Profile};
+//!
+//! let file = "\u{FEFF}1|ZUS|EPE|1.0|ZS1|ABC123|20201007120000|20201007|A|0|1|100.00\r\n\
+//!     2|1|100.00|Nowak|Jan|Łódź|90-001|Łódź|Żwirki|7A||||ZASIŁEK|2020-10||||\r\n";
+//! let profile = Profile { today: 20_201_007, fees: [350; 5], fields: 19 };
+//!
+//! let mut book = Book::empty();
+//! book.intake(&profile, b"EPEZZS1-201007-A-0", file.as_bytes())?;
+//! book.transfer(b"EPEZZS1-201007-A-0-K", 10_000)?;
+//! let stored = book.store()?; // on Friday
+//!
+//! let again = Book::load(&stored)?; // on Monday
+//! assert_eq!(again.sheet()?, book.sheet()?);
+//! # Ok::<(), buntingraft::Refusal>(())
+//! ```
+//!
 //! # A book in memory that is lent to it
 //!
 //! ```
@@ -112,6 +134,7 @@ mod refusal;
 mod report;
 mod sheet;
 mod spelling;
+mod store;
 mod sys;
 
 pub use answer::{Accepted, Pairing, Returned};
@@ -143,3 +166,7 @@ pub const MOST_OPE_BYTES: usize = 32_677;
 /// How many bytes money has at most as text, so that an output of as many is
 /// enough for any.
 pub const MOST_MONEY_BYTES: usize = 21;
+
+/// How many bytes a stored book has at most, so that an output of as many is
+/// enough for any.
+pub const MOST_STORED_BYTES: usize = 12_546;

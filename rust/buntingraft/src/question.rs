@@ -36,6 +36,10 @@ pub enum Call {
     WriteOpe,
     /// Money is written as text.
     WriteMoney,
+    /// A book is stored.
+    Store,
+    /// A stored book is loaded.
+    Load,
 }
 
 /// A question that a call asks, and its number.
@@ -49,7 +53,7 @@ pub struct Question {
 
 impl Call {
     /// Every call.
-    pub const ALL: [Call; 15] = [
+    pub const ALL: [Call; 17] = [
         Call::MakeEmpty,
         Call::Intake,
         Call::Transfer,
@@ -65,6 +69,8 @@ impl Call {
         Call::WriteRkf,
         Call::WriteOpe,
         Call::WriteMoney,
+        Call::Store,
+        Call::Load,
     ];
 
     /// The questions that this call asks. A return asks 24 of ZWR, and 19 and
@@ -83,6 +89,8 @@ impl Call {
             Call::WriteRkf => WRITE_RKF,
             Call::WriteOpe => WRITE_OPE,
             Call::WriteMoney => WRITE_MONEY,
+            Call::Store => STORE,
+            Call::Load => LOAD,
         }
     }
 }
@@ -105,6 +113,8 @@ impl fmt::Display for Call {
             Call::WriteRkf => "write RKF",
             Call::WriteOpe => "write OPE",
             Call::WriteMoney => "write money",
+            Call::Store => "store",
+            Call::Load => "load",
         })
     }
 }
@@ -272,6 +282,16 @@ const WRITE_OPE: &[Question] = &[
 ];
 
 const WRITE_MONEY: &[Question] = &[LONG_ENOUGH];
+
+const STORE: &[Question] = &[SOUND, LONG_ENOUGH];
+
+const LOAD: &[Question] = &[
+    ask(
+        32,
+        "Are the bytes a whole stored book of the newest form, and a sound one?",
+    ),
+    ask(30, "Is the book's memory long enough?"),
+];
 
 #[cfg(test)]
 mod tests {

@@ -227,6 +227,22 @@ unsafe extern "C" {
         output_length: usize,
     ) -> Reply;
 
+    pub(crate) safe fn buntingraft_stored_bytes() -> usize;
+
+    pub(crate) fn buntingraft_store(
+        book: *const u8,
+        book_length: usize,
+        output: *mut u8,
+        output_length: usize,
+    ) -> Reply;
+
+    pub(crate) fn buntingraft_load(
+        book: *mut u8,
+        book_length: usize,
+        stored: *const u8,
+        stored_length: usize,
+    ) -> Reply;
+
     pub(crate) fn buntingraft_replay(
         book: *mut u8,
         book_length: usize,

@@ -45,6 +45,16 @@ pub fn report(bytes: &[u8], report: &Report, output: &mut [u8]) -> Result<usize,
     }
 }
 
+/// Stores the book in these bytes, and gives the length written.
+pub fn store(bytes: &[u8], output: &mut [u8]) -> Result<usize, Refusal> {
+    Book::lent(bytes).store_into(output)
+}
+
+/// Loads a stored book into these bytes.
+pub fn load(bytes: &mut [u8], stored: &[u8]) -> Result<Answer, Refusal> {
+    Book::load_in(bytes, stored).map(|_| Answer::Done)
+}
+
 /// The archive's answer to a call on the book in these bytes.
 pub fn answer(bytes: &mut [u8], call: &Call) -> Result<Answer, Refusal> {
     let mut book = Book::lent(bytes);

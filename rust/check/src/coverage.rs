@@ -246,10 +246,11 @@ impl fmt::Display for Coverage {
         let (files, sheets) = (of(Call::Intake), of(Call::Sheet));
         let reports = of(Call::WriteRkf) + of(Call::WriteOpe);
         let texts = of(Call::WriteMoney);
+        let (stores, loads) = (of(Call::Store), of(Call::Load));
         writeln!(
             f,
             "{calls} calls, {files} of them files, {sheets} sheets, {reports} reports, \
-             {texts} texts of money"
+             {texts} texts of money, {stores} stores, {loads} loads"
         )?;
         writeln!(f, "{} random lists, {} probes", self.lists, self.probes)?;
         writeln!(f, "{} pieces of memory that no calls made", self.memories)?;

@@ -1,6 +1,6 @@
 //! Lent memory between two guards, and what every call owes to its bytes: the
 //! guards and what lies behind the book are never touched, and a refusal (or a
-//! Short pairing, a sheet or a report) leaves every byte.
+//! Short pairing, a sheet, a report or storing) leaves every byte.
 
 use crate::archive;
 use crate::layout::LENGTH;
@@ -84,6 +84,22 @@ impl Lent {
         let act = |bytes: &mut [u8]| archive::report(bytes, report, output);
         let answer = self.asked(report.call(), act)?;
         self.unchanged(answer)
+    }
+
+    /// Stores the book, and gives the length written, or the number of its
+    /// refusal; or what was wrong with it.
+    pub fn store(&mut self, output: &mut [u8]) -> Result<Result<usize, u32>, String> {
+        let act = |bytes: &mut [u8]| archive::store(bytes, output);
+        let answer = self.asked(buntingraft::Call::Store, act)?;
+        self.unchanged(answer)
+    }
+
+    /// Loads a stored book, and gives the archive's answer or what was wrong
+    /// with it.
+    pub fn load(&mut self, stored: &[u8]) -> Result<Answer, String> {
+        self.answered(buntingraft::Call::Load, |bytes| {
+            archive::load(bytes, stored)
+        })
     }
 
     /// Replays a journal, and gives the number of calls made, or why none was;

@@ -7,6 +7,7 @@
 //! - [`output`]: what both write into a lent output.
 //! - [`report`], [`reading`], [`reports`], [`values`]: the report files of both,
 //!   how they are read back, and which are asked for with what values.
+//! - [`storing`]: stored books with bytes changed, and what they are loaded into.
 //! - [`journal`], [`replay`]: a list of calls as bytes, and its replay.
 //! - [`run`], [`ledger`]: a list of calls under way, and demand 3 over it.
 //! - [`directed`], [`memory`], [`lists`]: the cases, memory and lists tried.
@@ -39,6 +40,7 @@ pub mod reports;
 pub mod run;
 pub mod sheet;
 pub mod stages;
+pub mod storing;
 pub mod telling;
 pub mod twin;
 pub mod values;
@@ -46,6 +48,7 @@ pub mod values;
 use coverage::Coverage;
 
 const _: () = assert!(layout::LENGTH == buntingraft::BOOK_BYTES);
+const _: () = assert!(layout::LENGTH == reference::BOOK_BYTES);
 const _: () = assert!(reference::MOST_SHIPMENTS == buntingraft::MOST_SHIPMENTS);
 
 /// Runs the directed cases, the memory and so many random lists, prints what

@@ -1,11 +1,13 @@
 //! Random lists of calls, each on a book that starts empty, with both books
-//! compared and probed after every call, reports written of them, and the whole
-//! list replayed at its end.
+//! compared and probed after every call, reports written of them, the book stored
+//! and now and then moved to other memory by that, and the whole list replayed at
+//! its end.
 
 use crate::coverage::Coverage;
 use crate::generator::Generator;
 use crate::numbers::Numbers;
 use crate::run::Run;
+use crate::storing::Storage;
 use std::ops::Range;
 
 /// Runs these lists of a seed.
@@ -20,6 +22,7 @@ fn check_list(seed: u64, list: u64, coverage: &mut Coverage) {
     let mut generator = Generator::of(seed, list);
     let title = format!("seed {seed}, list {list}");
     let mut run = Run::begin(title, generator.spare, coverage);
+    let mut storage = Storage::of(seed, list);
     for _ in 0..generator.calls {
         let call = generator.call(run.book());
         run.call(call.clone());
@@ -28,6 +31,7 @@ fn check_list(seed: u64, list: u64, coverage: &mut Coverage) {
             let _ = run.report(&report, length);
         }
         run.probe(&generator.probes(&call, run.book()));
+        storage.follow(&mut run);
     }
     run.replay(&mut Numbers::of(seed.rotate_left(32), list));
     run.coverage.lists += 1;

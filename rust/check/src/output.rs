@@ -10,7 +10,7 @@ pub type Written = Result<Vec<u8>, u32>;
 const GUARD: usize = 64;
 
 /// What the guards and so long an output hold before they are written to: no
-/// byte of any text that is written.
+/// byte of any text that is written, though stored books may have any.
 fn untouched(length: usize) -> Vec<u8> {
     let places = 0..length + 2 * GUARD;
     places.map(|place| 0x80 | place as u8).collect()

@@ -7,17 +7,19 @@ use crate::layout::LENGTH;
 use crate::ledger::Ledger;
 use crate::numbers::Numbers;
 use crate::output::Written;
-use crate::replay;
+use crate::replay::{self, After};
 use crate::report::Report;
 use crate::sheet::{Lending, Taken};
 use crate::telling::{end_with, told};
 use crate::twin::Twin;
+use buntingraft::MOST_STORED_BYTES;
 use reference::{Answer, Book, Call};
 
 /// A list of calls under way.
 pub struct Run<'a> {
     title: String,
     made: Vec<(Call, Answer)>,
+    moves: Vec<usize>,
     twin: Twin,
     aside: Twin,
     held: Book,
@@ -38,6 +40,7 @@ impl<'a> Run<'a> {
         Run {
             title,
             made: Vec::new(),
+            moves: Vec::new(),
             aside: twin.clone(),
             twin,
             held: Book::empty(),
@@ -130,6 +133,88 @@ impl<'a> Run<'a> {
         }
     }
 
+    /// Stores the book as it stands into an output of so many bytes, and gives
+    /// what it answers.
+    pub fn store(&mut self, length: usize) -> Written {
+        match self.twin.store(length) {
+            Ok(written) => {
+                self.coverage
+                    .note_written(buntingraft::Call::Store, &written);
+                written
+            }
+            Err(difference) => self.differs(&format!("store in {length} bytes"), &difference),
+        }
+    }
+
+    /// The stored bytes of the book as it stands.
+    pub fn stored(&mut self) -> Vec<u8> {
+        let stored = self.store(MOST_STORED_BYTES);
+        stored.unwrap_or_else(|number| self.differs("store", &format!("refused with {number}")))
+    }
+
+    /// Stores memory that holds these bytes into an output of so many, with an
+    /// answer that is known from the papers: the length written, or the number of
+    /// its refusal.
+    pub fn store_elsewhere(&mut self, memory: &[u8], length: usize, expected: Result<usize, u32>) {
+        let difference = match Twin::reading(memory).store(length) {
+            Ok(written) => {
+                let call = buntingraft::Call::Store;
+                self.coverage.note_written(call, &written);
+                let answer = written.map(|stored| stored.len());
+                if answer == expected {
+                    return;
+                }
+                format!("both answer {answer:?}, not {expected:?}")
+            }
+            Err(difference) => difference,
+        };
+        self.differs(&format!("store in {length} bytes"), &difference);
+    }
+
+    /// Loads these bytes into a copy of the memory as it stands, and gives what
+    /// that answers.
+    pub fn load_aside(&mut self, stored: &[u8]) -> Answer {
+        self.aside.copy_from(&self.twin);
+        let loaded = self.aside.load(stored);
+        self.loaded(stored, loaded)
+    }
+
+    /// Loads these bytes into memory that holds these, and gives what that
+    /// answers.
+    pub fn load_elsewhere(&mut self, stored: &[u8], memory: &[u8]) -> Answer {
+        let loaded = Twin::reading(memory).load(stored);
+        self.loaded(stored, loaded)
+    }
+
+    /// The answer to a load, if there was no difference.
+    fn loaded(&mut self, stored: &[u8], loaded: Result<Answer, String>) -> Answer {
+        match loaded {
+            Ok(answer) => {
+                self.coverage.note_answer(buntingraft::Call::Load, &answer);
+                answer
+            }
+            Err(difference) => {
+                let stored = stored.escape_ascii();
+                self.differs(&format!("load \"{stored}\""), &difference)
+            }
+        }
+    }
+
+    /// Stores the book and loads it into other memory, that holds these bytes:
+    /// there the list goes on.
+    pub fn move_to(&mut self, memory: &[u8]) {
+        let stored = self.stored();
+        let mut there = Twin::reading(memory);
+        let loaded = there.load(&stored);
+        let answer = self.loaded(&stored, loaded);
+        if answer != Answer::Done || there.book.as_ref() != Some(&self.held) {
+            self.differs("store and load", &format!("{answer:?}, or another book"));
+        }
+        self.moves.push(self.made.len());
+        self.aside = there.clone();
+        self.twin = there;
+    }
+
     /// Makes the next call, whose answer is known from the papers.
     pub fn expect(&mut self, call: Call, expected: Answer) {
         let answer = self.call(call.clone());
@@ -156,9 +241,15 @@ impl<'a> Run<'a> {
     }
 
     /// Replays the list so far from its beginning, as a journal, and near
-    /// misses of that.
+    /// misses of that: without the moves of its book, where it has some, and then
+    /// to an equal book, else to the same bytes.
     pub fn replay(&mut self, numbers: &mut Numbers) {
-        let after = self.twin.lent.bytes();
+        let bytes = self.twin.lent.bytes();
+        let after = if self.moves.is_empty() {
+            After::Bytes(bytes)
+        } else {
+            After::Book(bytes)
+        };
         let replayed = replay::check_list(&self.made, after, numbers, self.coverage);
         if let Err(difference) = replayed {
             self.differs("replay", &difference);
@@ -189,16 +280,27 @@ impl<'a> Run<'a> {
         self.coverage.probes += calls.len() as u64;
     }
 
-    /// Ends the program with the difference that a call, a sheet or a report
-    /// showed.
+    /// Ends the program with the difference that a call, a sheet, a report or
+    /// stored bytes showed.
     fn differs(&self, what: &str, difference: &str) -> ! {
         let mut so_far = String::new();
-        for (call, answer) in &self.made {
+        for (place, (call, answer)) in self.made.iter().enumerate() {
+            so_far += self.told_moves(place);
             so_far += &format!("  {} -> {answer:?}\n", told(call));
         }
+        so_far += self.told_moves(self.made.len());
         end_with(&format!(
             "{}\n{so_far}  {what} -> ?\n{difference}",
             self.title
         ));
+    }
+
+    /// Says that the book was moved before the call at a place, if it was.
+    fn told_moves(&self, place: usize) -> &'static str {
+        if self.moves.contains(&place) {
+            "  store, and load elsewhere -> Done\n"
+        } else {
+            ""
+        }
     }
 }

@@ -2,7 +2,7 @@
 
 use crate::layout::sound_book;
 use crate::lent::{leaves_the_book, Lent};
-use crate::output::Written;
+use crate::output::{self, Written};
 use crate::report::{self, Report};
 use crate::sheet::{self, Lending, Taken};
 use reference::{Answer, Book, Call};
@@ -82,6 +82,42 @@ impl Twin {
     /// answers, or the difference.
     pub fn report(&mut self, report: &Report, length: usize) -> Result<Written, String> {
         report::write(&mut self.lent, self.book.as_ref(), report, length)
+    }
+
+    /// Stores both into outputs of so many bytes, and gives what it answers, or
+    /// the difference. What was stored is the book's again.
+    pub fn store(&mut self, length: usize) -> Result<Written, String> {
+        let (lent, book) = (&mut self.lent, &self.book);
+        let archive = |output: &mut [u8]| lent.store(output);
+        let reference = |output: &mut [u8]| book.as_ref().ok_or(10u32)?.store_into(output);
+        let written = output::write(length, archive, reference)?;
+        match &written {
+            Ok(stored) if Book::unstored(stored) != self.book => {
+                let stored = stored.escape_ascii();
+                Err(format!("{stored} is another book's"))
+            }
+            _ => Ok(written),
+        }
+    }
+
+    /// Loads a stored book into both, and gives what it answers, or the
+    /// difference.
+    pub fn load(&mut self, stored: &[u8]) -> Result<Answer, String> {
+        let archive = self.lent.load(stored)?;
+        let mut loaded = Book::empty();
+        let reference = match loaded.load(self.lent.bytes().len(), stored) {
+            Ok(()) => {
+                self.book = Some(loaded);
+                Answer::Done
+            }
+            Err(number) => Answer::Refused(number),
+        };
+        if archive != reference {
+            return Err(format!("archive {archive:?}, reference {reference:?}"));
+        }
+        self.held()
+            .map_err(|difference| format!("both answer {archive:?}, but {difference}"))?;
+        Ok(archive)
     }
 
     /// Makes each of these calls on a copy of both, kept in `aside`, and tells

@@ -1,7 +1,7 @@
 //! A plain reference implementation of the settlement book for EPE shipments.
 //!
 //! Written from document 01 (the law), document 02 (its changes, of which A1 to
-//! A3 are in), document 00 (the demands), the decided readings and source
+//! A4 are in), document 00 (the demands), the decided readings and source
 //! document 003 sections 3, 5.1, 5.3.3.1, 5.4.3.1 and 6; from nothing else. It is
 //! meant to be read beside document 01: every question carries that document's
 //! words and number, in that document's order. Words of document 02 are marked as
@@ -14,6 +14,7 @@
 //! - [`book`]: the book as plain values, its calls and their answers.
 //! - [`sheet`]: the balance sheet of a book.
 //! - [`report`]: the report files RKF and OPE.
+//! - [`store`]: a book's stored bytes.
 
 pub mod book;
 pub mod calendar;
@@ -22,6 +23,7 @@ pub mod name;
 mod output;
 pub mod report;
 pub mod sheet;
+pub mod store;
 pub mod text;
 
 pub use book::{Answer, Book, Call, Money, Route, Row, Shipment, Stage, State, Waits};
@@ -46,3 +48,6 @@ pub const MOST_SHIPMENTS: usize = 32;
 
 /// "Its orders fit with those present in 2,048 rows?"
 pub const MOST_ROWS: usize = 2_048;
+
+/// The bytes of memory that a book takes: the library's, in no paper.
+pub const BOOK_BYTES: usize = 18_496;

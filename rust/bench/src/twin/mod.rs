@@ -15,6 +15,7 @@ mod report;
 mod returns;
 mod sheet;
 mod sound;
+mod store;
 mod text;
 
 pub use report::write_rkf;

@@ -6,6 +6,7 @@ mod random;
 mod reports;
 mod sheets;
 mod soundness;
+mod stores;
 
 use bench::calls::{Answer, Archive, Call, Rival, Twin};
 use buntingraft::BOOK_BYTES;

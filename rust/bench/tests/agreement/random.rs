@@ -2,6 +2,7 @@
 
 use crate::reports::agree_on_ope;
 use crate::sheets::agree_on_sheets;
+use crate::stores::agree_on_storing;
 use crate::Rivals;
 use bench::calls::{Answer, Call};
 use bench::files::{order_file, Records};
@@ -115,6 +116,7 @@ fn random_calls_are_answered_alike() {
             done += usize::from(!matches!(answer, Answer::Refused(_)));
         }
         agree_on_sheets(&rivals.archive);
+        agree_on_storing(&rivals.archive);
         agree_on_ope(&rivals.archive, dice.one_of(&IDS).as_bytes());
     }
     assert!(done > 6_000, "{done}");

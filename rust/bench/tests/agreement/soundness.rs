@@ -6,7 +6,7 @@ use bench::files::{order_file, Records, PROFILE};
 use buntingraft::BOOK_BYTES;
 
 /// A book of a Waiting, a Paired and a Closed shipment, seven orders each.
-fn three_shipments() -> Rivals {
+pub fn three_shipments() -> Rivals {
     let mut rivals = Rivals::new();
     for id in ["WA1", "PA1", "CL1"] {
         let file = order_file(id, 7, Records::Faulty);

@@ -1,6 +1,6 @@
 //! Cases taken from the papers one by one: every question and every two, every
 //! boundary, every spelling of money, every refusal, long titles, full books,
-//! sheets, report files, money as text, journals, ZS1 and the field engineer's
+//! sheets, report files, money as text, stored books, journals, ZS1 and the field engineer's
 //! card.
 
 mod bytes;
@@ -16,6 +16,7 @@ mod replay;
 mod rkf;
 mod sheet;
 mod spellings;
+mod store;
 mod titles;
 
 use crate::coverage::Coverage;
@@ -34,6 +35,7 @@ pub fn check(coverage: &mut Coverage) {
     rkf::check(coverage);
     ope::check(coverage);
     money::check(coverage);
+    store::check(coverage);
     replay::check(coverage);
     card::check(coverage);
 }

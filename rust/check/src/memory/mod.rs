@@ -1,7 +1,7 @@
 //! Memory that is no book made by calls: too short, garbage, or a book with
 //! bytes changed by somebody else. Where it is a sound book all the same, the
-//! calls, the sheet and an OPE do what the reference does with that book; else
-//! they are refused with 10 (an intake with 900) and leave every byte.
+//! calls, the sheet, an OPE and storing do what the reference does with that book;
+//! else they are refused with 10 (an intake with 900) and leave every byte.
 
 mod corrupt;
 mod fields;
@@ -17,6 +17,7 @@ use crate::probe::deeds_on;
 use crate::reports;
 use crate::run::Run;
 use crate::stages;
+use crate::storing;
 use crate::telling::{end_with, told};
 use crate::twin::Twin;
 use reference::{Book, Call};
@@ -70,8 +71,8 @@ fn calls_in_turn(book: &Book, turn: usize) -> Vec<Call> {
     every_call(book, turn % count, turn / count)
 }
 
-/// Makes each call on a copy of this memory, takes its sheet, and writes an OPE
-/// of it. `what` says which memory it is, should a difference show.
+/// Makes each call on a copy of this memory, takes its sheet, writes an OPE of it,
+/// and stores it. `what` says which memory it is, should a difference show.
 fn try_calls(twin: &Twin, calls: &[Call], what: impl Fn() -> String, desk: &mut Desk) {
     let coverage = &mut *desk.coverage;
     let tried = twin.try_each(&mut desk.aside, calls, |call, answer, after| {
@@ -94,6 +95,18 @@ fn try_calls(twin: &Twin, calls: &[Call], what: impl Fn() -> String, desk: &mut 
         Err(difference) => {
             let (what, report) = (what(), report.told(length));
             end_with(&format!("{what}\n  {report} -> ?\n{difference}"));
+        }
+    }
+    let length = storing::length_in_turn(book, desk.coverage.memories);
+    match desk.aside.store(length) {
+        Ok(written) => desk
+            .coverage
+            .note_written(buntingraft::Call::Store, &written),
+        Err(difference) => {
+            let what = what();
+            end_with(&format!(
+                "{what}\n  store in {length} bytes -> ?\n{difference}"
+            ));
         }
     }
     desk.coverage.memories += 1;

@@ -137,6 +137,8 @@ fn money_is_conserved_over_lists_of_calls() {
                 }
                 _ => {}
             }
+            // A list goes on in the book that its stored bytes give back.
+            book = Book::unstored(&book.stored()).expect("a stored sound book");
             let rows = sheet(&book);
             for (other, name) in IDENTIFIERS.iter().enumerate() {
                 for (place, money) in MONEYS.into_iter().enumerate() {

@@ -9,4 +9,5 @@ mod refusals;
 mod report;
 mod sheet;
 mod spellings;
+mod store;
 mod zs1;
