@@ -14,14 +14,15 @@ use Rattle.money.specs.declared.Amount.{Amount}
 use Rattle.money.specs.declared.Fee.{Fee}
 use Rattle.epe.proofs.QuestionLaws.{asked-no, asked-yes, asked-none}
 use Rattle.model.specs.Shipment.{mostRows, Shipment, isPaired}
-use Rattle.model.specs.Calls.{FeeEarned, Refused, changesNothing, leave, withRows, withState, fits, becomes, says, noOrder, orderAt, onOrder}
+use Rattle.model.specs.Calls.{Refused, changesNothing, leave, withRows, withState, fits, becomes, says, noOrder, orderAt, onOrder}
 use Rattle.model.specs.Sound.{faultInRange}
 use Rattle.model.specs.declared.Deed.{Deed}
 use Rattle.model.specs.declared.Deed.the-variants.{Post, Pay, MarkUndelivered, Withdraw}
 use Rattle.model.specs.declared.Row.{Row}
+use Rattle.model.specs.declared.State.{State}
 use Rattle.memory.specs.Layout.{headBytes, rowBytes}
 use Rattle.memory.specs.Rows.{rowOf}
-use Rattle.memory.specs.Heads.{feeIn, stageIn, orderCountIn, shipmentIn}
+use Rattle.memory.specs.Heads.{stageIn, orderCountIn, shipmentIn}
 use Rattle.memory.specs.Read.{rowsFrom, ordersAt, shipmentAt, Sits}
 use Rattle.memory.specs.Inner.Stored.{codeOf, withCodeAt}
 use Rattle.memory.proofs.Frames.{row-among}
@@ -32,7 +33,7 @@ use Rattle.acts.specs.Inner.Handled.{handlingOf}
 use Rattle.acts.specs.Inner.Place.{ActAt}
 use Rattle.acts.specs.declared.order.Handling.the-variants.{Handled}
 use Rattle.acts.proofs.RowLaws.{row-at, rows-set}
-use Rattle.memory.proofs.HeadFields.{orders-are, fee-is, paired-is}
+use Rattle.memory.proofs.HeadFields.{orders-are, paired-is}
 use Rattle.acts.proofs.ShipmentChanged.{refused-at, rows-changed}
 
 becomes-in-range : (deed : Deed) → faultInRange (becomes deed) ≡ true
@@ -47,11 +48,11 @@ handled-taken Pay fee amount = refl
 handled-taken MarkUndelivered fee amount = refl
 handled-taken Withdraw fee amount = refl
 
-handled-says : (deed : Deed) (fee : Fee) (s : Shipment) (row : Row) → fee .0 ≡ s .agreed .fee → says deed s row ≡ handlingOf deed (Handled fee (row .amount))
-handled-says Post fee s row fee-is = ap FeeEarned (sym fee-is)
-handled-says Pay fee s row fee-is = refl
-handled-says MarkUndelivered fee s row fee-is = refl
-handled-says Withdraw fee s row fee-is = refl
+handled-says : (deed : Deed) (row : Row) → says deed row ≡ handlingOf deed (Handled (row .fee) (row .amount))
+handled-says Post row = refl
+handled-says Pay row = refl
+handled-says MarkUndelivered row = refl
+handled-says Withdraw row = refl
 
 module _ (m : List ℕ) (i k : ℕ) (deed : Deed) (number : ℕ) {head : List ℕ} (is-head : head ≡ headBytes m i) where
   abbrev s : Shipment
@@ -87,14 +88,17 @@ module _ (m : List ℕ) (i k : ℕ) (deed : Deed) (number : ℕ) {head : List �
         pub to-count : number ≤ ordersAt m i
         to-count = let below = leb-true number n (and-right (leb 1 number) (leb number n) (sym is-within ∙ inside)) in omega (arith, count-is)
 
+        pub row-there : Sits m i k → k + (number - 1) < mostRows
+        row-there sits = omega (arith, sits .room, from-one, to-count)
+
         order-is : orderAt number s ≡ rowOf (rowBytes m (k + (number - 1)))
         unfolding shipmentIn
         order-is = row-at m k (ordersAt m i) (number - 1) noOrder (omega (arith, from-one, to-count))
 
         -- "State fits? 21"
-        module _ {row : Row} (row-is : row ≡ rowOf (rowBytes m (k + (number - 1)))) {fitting : Bool} (is-fitting : fitting ≡ fits deed (row .state)) where
+        module _ {state : State} (state-is : state ≡ rowOf (rowBytes m (k + (number - 1))) .state) {fitting : Bool} (is-fitting : fitting ≡ fits deed state) where
           fitting-is : fits deed (orderAt number s .state) ≡ fitting
-          fitting-is = ap (λ (order : Row). fits deed (order .state)) (order-is ∙ sym row-is) ∙ sym is-fitting
+          fitting-is = ap (λ (order : Row). fits deed (order .state)) order-is ∙ sym (is-fitting ∙ ap (fits deed) state-is)
 
           pub unfit-at : fitting ≡ false → ActAt m i k (onOrder deed number) (Refused 21) m
           unfolding onOrder
@@ -102,21 +106,24 @@ module _ (m : List ℕ) (i k : ℕ) (deed : Deed) (number : ℕ) {head : List �
               refused-at
               (asked-yes 19 _ _ _ (paired-test ∙ held) ∙ asked-yes 20 _ _ _ (within-is ∙ inside) ∙ asked-no 21 _ _ _ (fitting-is ∙ unfit))
 
-          pub handled-at : (sits : Sits m i k) (fee : Fee) → fee .0 ≡ feeIn head → fitting ≡ true
-              → ActAt m i k (onOrder deed number) (handlingOf deed (Handled fee (row .amount))) (withCodeAt m (k + (number - 1)) (codeOf (becomes deed)))
+          pub handled-at : (sits : Sits m i k) {fee : Fee} {amount : Amount} → fee ≡ rowOf (rowBytes m (k + (number - 1))) .fee
+              → amount ≡ rowOf (rowBytes m (k + (number - 1))) .amount → fitting ≡ true
+              → ActAt m i k (onOrder deed number) (handlingOf deed (Handled fee amount)) (withCodeAt m (k + (number - 1)) (codeOf (becomes deed)))
           unfolding onOrder shipmentIn
-          handled-at sits fee is-fee fit =
+          handled-at sits {fee} {amount} fee-is amount-is fit =
               let at = k + (number - 1) in
               let stored = code-stored m at (codeOf (becomes deed)) in
-              let there : at < mostRows = omega (arith, sits .room, from-one, to-count) in
+              let there = row-there sits in
               let new = stored .row there (sits .enough) ∙ ap (λ state. withState state (rowOf (rowBytes m at))) (state-is-read-back (becomes deed) (becomes-in-range deed)) in
-              rows-changed (handled-taken deed fee (row .amount)) (sits .few)
+              rows-changed (handled-taken deed fee amount) (sits .few)
               (row-among k (ordersAt m i) (omega arith) (omega (arith, from-one, to-count)) (stored .only there))
-              (rows-set m _ k (ordersAt m i) (number - 1) (omega (arith, from-one, to-count)) (stored .only there .other-rows)
+              (rows-set m _ k (ordersAt m i) (number - 1) (omega (arith, from-one, to-count)) (λ r from below. stored .only there .other-rows r (omega (arith, sits .room)))
               ∙ ap (set (rowsFrom m k (ordersAt m i)) (number - 1)) (new ∙ ap (withState (becomes deed)) (sym order-is)))
               (asked-yes 19 _ _ _ (paired-test ∙ held)
               ∙ asked-yes 20 _ _ _ (within-is ∙ inside)
               ∙ asked-yes 21 _ _ _ (fitting-is ∙ fit)
               ∙ asked-none _ _
               ∙ ap (λ answer. leave answer (withRows (set (s .rows) (number - 1) (withState (becomes deed) (orderAt number s))) s))
-              (handled-says deed fee s (orderAt number s) (is-fee ∙ fee-is m i k is-head) ∙ ap (λ (order : Row). handlingOf deed (Handled fee (order .amount))) (order-is ∙ sym row-is)))
+              (handled-says deed (orderAt number s)
+              ∙ ap (λ (order : Row). handlingOf deed (Handled (order .fee) (order .amount))) order-is
+              ∙ (λ t. handlingOf deed (Handled (sym fee-is t) (sym amount-is t)))))

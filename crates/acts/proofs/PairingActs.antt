@@ -3,26 +3,25 @@
 use mathlib.Core.Path.{_≡_, refl, sym, ap, _∙_}
 use mathlib.Core.Bool.{Bool, true, false, not, cond, _&&_, _||_, or-comm}
 use mathlib.Core.List.{List}
-use Prim.Native.Nat.{ℕ, _*_, _-_}
+use Prim.Native.Nat.{ℕ, _-_}
 use lib.Dec.{leb, ltb}
 use Rattle.money.specs.declared.Money.the-variants.{K, O}
 use Rattle.money.specs.Money.{amount, fee}
 use Rattle.money.specs.declared.Amount.{Amount}
 use Rattle.money.specs.declared.Fee.{Fee}
 use Rattle.epe.proofs.QuestionLaws.{asked-no, asked-yes, asked-none}
-use Rattle.model.specs.Shipment.{Shipment, accepted, isWaiting, need, sumOver, anyFaulty}
+use Rattle.model.specs.Shipment.{Shipment, accepted, isWaiting, sumOver, worth, need, anyFaulty}
 use Rattle.model.specs.Calls.{Refused, Done, IsPaired, Short, Outcome, leave, goneAhead, paired}
-use Rattle.model.specs.declared.Row.{Row}
 use Rattle.model.specs.declared.Stage.the-variants.{Paired}
 use Rattle.memory.specs.Layout.{headBytes}
-use Rattle.memory.specs.Heads.{feeIn, stageIn, goAheadIn, orderCountIn, transfersIn}
+use Rattle.memory.specs.Heads.{stageIn, goAheadIn, orderCountIn, transfersIn}
 use Rattle.memory.specs.Read.{rowsFrom, shipmentAt, Sits}
 use Rattle.memory.specs.Inner.Stored.{withStageAt, withGoAheadAt}
 use Rattle.acts.specs.Inner.Place.{ActAt}
 use Rattle.memory.proofs.HeadFields.{waiting-is, go-ahead-is, accepted-is}
 use Rattle.acts.proofs.ShipmentChanged.{left-at, refused-at}
 use Rattle.acts.proofs.HeadActs.{stage-changed, go-ahead-changed}
-use Rattle.acts.proofs.Needs.{covered-is, neither, need-in-fees, need-in-amounts, faulty-is}
+use Rattle.acts.proofs.Needs.{covered-is, neither, need-is, faulty-is}
 
 first-chosen : (t : Bool) (a b : Outcome) → t ≡ true → cond t a b ≡ a
 first-chosen t a b h = rw h
@@ -91,18 +90,18 @@ module _ (m : List ℕ) (i k : ℕ) (sits : Sits m i k) {head : List ℕ} (is-he
 
         module _ (free : may ≡ true) {missing-k amounts k-in : Amount} {missing-o fees o-in : Fee}
             (is-missing-k : missing-k ≡ amount (amounts .0 - k-in .0)) (is-missing-o : missing-o ≡ fee (fees .0 - o-in .0))
-            (are-amounts : amounts ≡ amount (sumOver (λ (row : Row). row .amount .0) (rowsFrom m k n))) (are-fees : fees ≡ fee (n * feeIn head))
+            (are-amounts : amounts ≡ amount (sumOver (worth K) (rowsFrom m k n))) (are-fees : fees ≡ fee (sumOver (worth O) (rowsFrom m k n)))
             (is-k-in : k-in ≡ amount (transfersIn K head)) (is-o-in : o-in ≡ fee (transfersIn O head))
             {short : Bool} (is-short : short ≡ (ltb 0 (missing-k .0) || ltb 0 (missing-o .0))) where
           amount-is : missing-k .0 ≡ need K s - accepted K s
           amount-is =
               ap (λ (a : Amount). a .0) is-missing-k
-              ∙ (λ t. need-in-amounts m i k sits is-head is-count are-amounts t - (ap (λ (a : Amount). a .0) is-k-in ∙ accepted-is m i k is-head K) t)
+              ∙ (λ t. (ap (λ (a : Amount). a .0) are-amounts ∙ need-is m i k sits is-head is-count K) t - (ap (λ (a : Amount). a .0) is-k-in ∙ accepted-is m i k is-head K) t)
 
           fee-is : missing-o .0 ≡ need O s - accepted O s
           fee-is =
               ap (λ (a : Fee). a .0) is-missing-o
-              ∙ (λ t. need-in-fees m i k sits is-head is-count are-fees t - (ap (λ (a : Fee). a .0) is-o-in ∙ accepted-is m i k is-head O) t)
+              ∙ (λ t. (ap (λ (a : Fee). a .0) are-fees ∙ need-is m i k sits is-head is-count O) t - (ap (λ (a : Fee). a .0) is-o-in ∙ accepted-is m i k is-head O) t)
 
           covered-test : (leb (need K s) (accepted K s) && leb (need O s) (accepted O s)) ≡ not short
           covered-test =

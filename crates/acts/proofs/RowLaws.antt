@@ -36,15 +36,15 @@ module _ (m m′ : List ℕ) where
       rw (each k (omega arith) (omega arith), rest)
 
   -- every row but one as it was
-  pub rows-set : (k n j : ℕ) → j < n → ((r : ℕ) → (r ≡ k + j → ⊥) → rowBytes m′ r ≡ rowBytes m r)
+  pub rows-set : (k n j : ℕ) → j < n → ((r : ℕ) → k ≤ r → r < k + n → (r ≡ k + j → ⊥) → rowBytes m′ r ≡ rowBytes m r)
       → rowsFrom m′ k n ≡ set (rowsFrom m k n) j (rowOf (rowBytes m′ (k + j)))
   unfolding rowsFrom
   rows-set k zero j within alike = absurd (omega arith)
   rows-set k (suc n) zero within alike =
       let here : k + 0 ≡ k = omega arith in
-      let rest = rows-alike (suc k) n (λ r from below. alike r (λ same. omega arith)) in
+      let rest = rows-alike (suc k) n (λ r from below. alike r (omega arith) (omega arith) (λ same. omega arith)) in
       rw (here, rest)
   rows-set k (suc n) (suc j) within alike =
       let next : k + suc j ≡ suc k + j = omega arith in
-      let rest = rows-set (suc k) n j (omega arith) (λ r apart. alike r (λ same. apart (omega arith))) in
-      rw (alike k (λ same. omega arith), next, rest)
+      let rest = rows-set (suc k) n j (omega arith) (λ r from below apart. alike r (omega arith) (omega arith) (λ same. apart (omega arith))) in
+      rw (alike k (omega arith) (omega arith) (λ same. omega arith), next, rest)

@@ -3,8 +3,9 @@
 use mathlib.Core.Path.{_≡_, refl, sym, ap}
 use mathlib.Core.Bool.{true, false}
 use mathlib.Core.List.{List}
-use Prim.Native.Nat.{ℕ, _<_}
-use Rattle.model.specs.Shipment.{mostShipments, Shipment}
+use Prim.Native.Nat.{ℕ, _+_, _≤_, _<_}
+use native.Mathlib.Omega.{arith}
+use Rattle.model.specs.Shipment.{mostShipments, mostRows, Shipment}
 use Rattle.model.specs.Calls.{Answer, Refused, changesNothing, Outcome, leave, withRows}
 use Rattle.model.specs.declared.Row.{Row}
 use Rattle.model.proofs.Asking.{not-both}
@@ -30,12 +31,12 @@ module _ {m : List ℕ} {i k : ℕ} {does : Shipment → Outcome} where
   refused-at = left-at
 
   module _ {m′ : List ℕ} {answer : Answer} (taken : changesNothing answer ≡ false) where
-    pub head-changed : {t : Shipment} → OnlyHead i m m′ → shipmentIn (headBytes m′ i) (rowsFrom m k (ordersAt m i)) ≡ t
+    pub head-changed : {t : Shipment} → k + ordersAt m i ≤ mostRows → OnlyHead i m m′ → shipmentIn (headBytes m′ i) (rowsFrom m k (ordersAt m i)) ≡ t
         → does (shipmentAt m i k) ≡ leave answer t → ordersAt m′ i ≡ ordersAt m i
         → (flagsInForm (headBytes m i) ≡ true → flagsInForm (headBytes m′ i) ≡ true) → ActAt m i k does answer m′
-    head-changed only new done orders flags = record {
+    head-changed room only new done orders flags = record {
       answers = sym (ap (λ (outcome : Outcome). outcome .answer) done);
-      leaves = rw (orders, rows-alike m m′ k (ordersAt m i) (λ r from below. rows-kept only r), done) new;
+      leaves = rw (orders, rows-alike m m′ k (ordersAt m i) (λ r from below. rows-kept only r (omega arith)), done) new;
       only = with-rows only;
       orders = orders;
       flags = flags;

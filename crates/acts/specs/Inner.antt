@@ -2,3 +2,4 @@
 pub mod Place
 pub mod Handled
 pub mod Waits
+pub mod Waiting

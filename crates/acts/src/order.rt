@@ -1,11 +1,11 @@
 // Post, pay, mark undelivered and withdraw: one walk to the order, one change of its state.
 use crate::refusals;
-use memory::head::fee;
 use memory::head::head_bytes;
 use memory::head::is_paired;
 use memory::head::orders;
-use memory::row::read_row;
-use memory::row::row_bytes;
+use memory::row::amount;
+use memory::row::fee;
+use memory::row::state;
 use memory::row::store_state;
 use model::Deed;
 use model::State;
@@ -31,7 +31,6 @@ pub fn handle_at(memory: &mut [u8], i: usize, k: usize, deed: Deed, number: u64)
     ensures { λ r. ⌜ ActAt (now (memory .entry)) i k (onOrder deed number) (handlingOf deed r) (now (memory .exit)) ⌝ }
 {
     let head = head_bytes(memory, i);
-    let fee = fee(head);
     if !is_paired(head) {
         return Handling::Refused(refusals::NOT_PAIRED);
     }
@@ -39,9 +38,9 @@ pub fn handle_at(memory: &mut [u8], i: usize, k: usize, deed: Deed, number: u64)
         return Handling::Refused(refusals::NO_SUCH_ORDER);
     }
     let at = k + (number - 1) as usize;
-    let row = read_row(row_bytes(memory, at));
-    let amount = row.amount;
-    let state = row.state;
+    let fee = fee(memory, at);
+    let amount = amount(memory, at);
+    let state = state(memory, at);
     if !does_fit(deed, state) {
         return Handling::Refused(refusals::STATE);
     }

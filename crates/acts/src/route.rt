@@ -2,35 +2,35 @@
 use crate::answer::Returning;
 use crate::refusals;
 use crate::surplus::surplus_at;
-use memory::head::fee;
 use memory::head::head_bytes;
 use memory::head::is_paired;
 use memory::head::orders;
+use memory::head::terms;
 use memory::row::amount;
-use memory::row::row_bytes;
+use memory::row::code;
+use memory::row::fee;
 use memory::wait::store_return;
 use memory::wait::wait_of;
 use memory::wait::wait_table;
 use model::Route;
-use money::Fee;
 use money::Money;
 use money::Sum;
 ghost use mathlib.Core.Path.{_≡_};
 ghost use mathlib.Core.Bool.{false, true};
-ghost use Prim.Native.Nat.{_+_, _≤_, _<_, _^_};
-ghost use lib.Dec.{eqb};
+ghost use Prim.Native.Nat.{_+_, _*_, _≤_, _<_, _^_};
 ghost use lib.ListN.{length};
 ghost use Rattle.money.specs.Money.{WithinSum};
-ghost use Rattle.model.specs.Shipment.{mostRows, byMoney, Shipment, worth};
+ghost use Rattle.money.specs.declared.Money.the-variants.{O};
+ghost use Rattle.model.specs.Shipment.{mostRows, byMoney, worth};
 ghost use Rattle.model.specs.Calls.{Return, waiting, isZprWithO, returnedBy, acted};
 ghost use Rattle.model.specs.declared.Route.{Route};
-ghost use Rattle.memory.specs.Layout.{size, IsRow};
+ghost use Rattle.memory.specs.Layout.{size, rowBytes};
 ghost use Rattle.memory.specs.Rows.{rowOf};
-ghost use Rattle.memory.specs.Read.{shipmentAt, Sits};
+ghost use Rattle.memory.specs.Read.{rowsFrom, shipmentAt, Sits};
 ghost use Rattle.memory.specs.Inner.Returns.{WaitTable, IsWaitTable};
 ghost use Rattle.acts.specs.Answers.{returningOf};
 ghost use Rattle.acts.specs.Inner.Place.{ActAt};
-ghost use Rattle.acts.specs.Inner.Waits.{IsFeeOf, RowCleared, Cleared};
+ghost use Rattle.acts.specs.Inner.Waits.{worthWaiting, feesWaitInVain, waitsInVain, RowCleared, Cleared};
 
 // What waits, and in how many orders.
 pub struct Waits {
@@ -69,7 +69,7 @@ fn return_at(memory: &mut [u8], i: usize, k: usize, route: Route, money: Money) 
     if is_zpr_with_o(route, money) {
         return Returning::Refused(refusals::UNDELIVERED_FEE);
     }
-    if are_worth_nothing(money, fee(head)) {
+    if waits_in_vain(memory, i, k, route, money) {
         return Returning::Refused(refusals::NOTHING_TO_RETURN);
     }
     let waits = clear(memory, i, k, route, money);
@@ -93,14 +93,39 @@ fn is_zpr_with_o(route: Route, money: Money) -> bool
     }
 }
 
-// Is every order worth nothing in a money? In K none is, in O all are where the fee is 0.
-fn are_worth_nothing(money: Money, fee: Fee) -> bool
-    ensures { λ r. ⌜ r ≡ byMoney money false (eqb (fee .0) 0) ⌝ }
+// Is what waits of a money on a route 0, though orders may wait? Never in K, since no amount is 0.
+fn waits_in_vain(memory: &[u8], i: usize, k: usize, route: Route, money: Money) -> bool
+    requires { ⌜ Sits (now memory) i k ⌝ }
+    ensures { λ r. ⌜ r ≡ waitsInVain route money (shipmentAt (now (memory .entry)) i k) ⌝ }
 {
     match money {
         Money::K => false,
-        Money::O => fee.0 == 0,
+        Money::O => fees_wait_in_vain(memory, i, k, route),
     }
+}
+
+// Is it so in O? No fee is below the flat part, so that what waits is added up beforehand only where that is 0.
+fn fees_wait_in_vain(memory: &[u8], i: usize, k: usize, route: Route) -> bool
+    requires { ⌜ Sits (now memory) i k ⌝ }
+    ensures { λ r. ⌜ r ≡ feesWaitInVain route (shipmentAt (now (memory .entry)) i k) ⌝ }
+{
+    let head = head_bytes(memory, i);
+    let terms = terms(head);
+    terms.flat.0 == 0 && fees_waiting(memory, k, orders(head) as usize, route) == 0
+}
+
+// The fees that wait on a route in the n rows from the k-th on, each as often as its wait adds to the byte of state.
+fn fees_waiting(memory: &[u8], k: usize, n: usize, route: Route) -> u64
+    requires { ⌜ (k + n ≤ mostRows) × (size ≤ length (now memory)) ⌝ }
+    ensures { λ r. ⌜ r ≡ worthWaiting route O (rowsFrom (now (memory .entry)) k n) * 2 ⌝ }
+{
+    let table = wait_table(route, Money::O);
+    let mut sum = 0;
+    for past in 0..n {
+        let code = code(memory, k + past);
+        sum += fee(memory, k + past).0 * table[code as usize] as u64;
+    }
+    sum
 }
 
 // Ends every wait of a money on a route in the shipment at a place, and answers what waited.
@@ -111,11 +136,10 @@ fn clear(memory: &mut [u8], i: usize, k: usize, route: Route, money: Money) -> W
 {
     let head = head_bytes(memory, i);
     let n = orders(head) as usize;
-    let fee = fee(head);
     let table = wait_table(route, money);
     let mut taken = Taken { worth: 0, count: 0 };
     for done in 0..n {
-        taken = clear_row(memory, k + done, taken, money, fee, &table);
+        taken = clear_row(memory, k + done, taken, money, &table);
     }
     let wait = wait_of(money) as u64;
     let sum = Sum::of(money, taken.worth / wait);
@@ -134,31 +158,24 @@ fn is_o(money: Money) -> bool
 }
 
 // Takes out of row k the wait that a table of waits of a money says of it. What it took is counted, and as often the order's worth is added.
-fn clear_row(
-    memory: &mut [u8],
-    k: usize,
-    taken: Taken,
-    money: Money,
-    fee: Fee,
-    table: &[u8],
-) -> Taken
-    requires { ⌜ (k < mostRows) × (size ≤ length (now memory)) × (fee .0 < 2 ^ 32) × IsWaitTable (now table) × (taken .worth < 2 ^ 60) × (taken .count < 2 ^ 60) ⌝ }
-    ensures { λ r. ⌜ ((route : Route) (s : Shipment) → WaitTable route money (now (table .entry)) → IsFeeOf s fee → RowCleared route money s k taken (now (memory .entry)) (now (memory .exit)) r) × (r .worth < taken .worth + 2 ^ 34) × (r .count ≤ taken .count + 2) ⌝ }
+fn clear_row(memory: &mut [u8], k: usize, taken: Taken, money: Money, table: &[u8]) -> Taken
+    requires { ⌜ (k < mostRows) × (size ≤ length (now memory)) × IsWaitTable (now table) × (taken .worth < 2 ^ 60) × (taken .count < 2 ^ 60) ⌝ }
+    ensures { λ r. ⌜ ((route : Route) → WaitTable route money (now (table .entry)) → RowCleared route money k taken (now (memory .entry)) (now (memory .exit)) r) × (r .worth < taken .worth + 2 ^ 34) × (r .count ≤ taken .count + 2) ⌝ }
 {
-    let worth = worth_of(row_bytes(memory, k), money, fee);
+    let worth = worth_of(memory, k, money);
     let took = store_return(memory, k, table);
     let sum = taken.worth + worth * took;
     let count = taken.count + took;
     Taken { worth: sum, count }
 }
 
-// What an order is worth, in grosze: its amount in K, the fee in O.
-fn worth_of(row: &[u8], money: Money, fee: Fee) -> u64
-    requires { ⌜ IsRow (now row) × (fee .0 < 2 ^ 32) ⌝ }
-    ensures { λ r. ⌜ ((s : Shipment) → IsFeeOf s fee → r ≡ worth money s (rowOf (now (row .entry)))) × (r < 2 ^ 32) ⌝ }
+// What the order of row k is worth, in grosze: its amount in K, its fee in O.
+fn worth_of(memory: &[u8], k: usize, money: Money) -> u64
+    requires { ⌜ (k < mostRows) × (size ≤ length (now memory)) ⌝ }
+    ensures { λ r. ⌜ (r ≡ worth money (rowOf (rowBytes (now (memory .entry)) k))) × (r < 2 ^ 32) ⌝ }
 {
     match money {
-        Money::K => amount(row).0,
-        Money::O => fee.0,
+        Money::K => amount(memory, k).0,
+        Money::O => fee(memory, k).0,
     }
 }

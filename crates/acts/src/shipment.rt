@@ -2,11 +2,11 @@
 use crate::answer::Completion;
 use crate::answer::Pairing;
 use crate::refusals;
-use crate::rows::amounts_in;
 use crate::rows::has_faulty_in;
+use memory::column::amounts_in;
+use memory::column::fees_in;
 use memory::head::accepted;
 use memory::head::amounts_accepted;
-use memory::head::fees;
 use memory::head::fees_accepted;
 use memory::head::has_go_ahead;
 use memory::head::head_bytes;
@@ -20,20 +20,19 @@ use money::Amount;
 use money::Fee;
 use money::Sum;
 ghost use mathlib.Core.Path.{_≡_};
-ghost use mathlib.Core.Bool.{true, not, _||_};
+ghost use mathlib.Core.Bool.{not, _||_};
 ghost use Prim.Native.Nat.{_+_, _≤_};
 ghost use lib.Dec.{ltb};
 ghost use lib.ListN.{length};
 ghost use Rattle.money.specs.Money.{WithinSum, groszeIn, moneyOfSum};
 ghost use Rattle.model.specs.Shipment.{mostRows, anyFaulty};
 ghost use Rattle.model.specs.Calls.{transferred, goneAhead, paired, closed};
-ghost use Rattle.model.specs.Sound.{rowsSound};
-ghost use Rattle.model.specs.declared.Stage.the-variants.{Waiting};
 ghost use Rattle.memory.specs.Layout.{size, IsHead};
 ghost use Rattle.memory.specs.Heads.{goAheadIn};
 ghost use Rattle.memory.specs.Read.{rowsFrom, Sits};
 ghost use Rattle.acts.specs.Answers.{completionOf, pairingOf};
 ghost use Rattle.acts.specs.Inner.Place.{ActAt};
+ghost use Rattle.acts.specs.Inner.Waiting.{SoundInWaiting};
 
 // Takes a transfer to the shipment at a place.
 pub fn transfer_at(memory: &mut [u8], i: usize, k: usize, sum: Sum) -> Completion
@@ -78,12 +77,12 @@ pub fn pair_at(memory: &mut [u8], i: usize, k: usize) -> Pairing
     if !is_waiting(head) {
         return Pairing::Refused(refusals::NOT_WAITING);
     }
-    let n = orders(head);
-    if !may_pair(head, memory, k, n as usize) {
+    let n = orders(head) as usize;
+    if !may_pair(head, memory, k, n) {
         return Pairing::Refused(refusals::FAULTS);
     }
-    let amount = amounts_in(memory, k, n as usize).less(amounts_accepted(head));
-    let fee = fees(head, n).less(fees_accepted(head));
+    let amount = amounts_in(memory, k, n).less(amounts_accepted(head));
+    let fee = fees_in(memory, k, n).less(fees_accepted(head));
     if is_short(amount, fee) {
         return Pairing::Short(amount, fee);
     }
@@ -105,7 +104,7 @@ pub fn close_at(memory: &mut [u8], i: usize, k: usize) -> Completion
 
 // Has the shipment of this head and the n rows from the k-th on a go-ahead, or no faults?
 fn may_pair(head: &[u8], memory: &[u8], k: usize, n: usize) -> bool
-    requires { ⌜ IsHead (now head) × (k + n ≤ mostRows) × (size ≤ length (now memory)) × (rowsSound Waiting (rowsFrom (now memory) k n) ≡ true) ⌝ }
+    requires { ⌜ IsHead (now head) × (k + n ≤ mostRows) × (size ≤ length (now memory)) × SoundInWaiting (rowsFrom (now memory) k n) ⌝ }
     ensures { λ r. ⌜ r ≡ (goAheadIn (now (head .entry)) || not (anyFaulty (rowsFrom (now (memory .entry)) k n))) ⌝ }
 {
     has_go_ahead(head) || !has_faulty_in(memory, k, n)

@@ -1,9 +1,9 @@
 // ZWR: the free money of a shipment goes back.
 use crate::answer::Returning;
 use crate::refusals;
-use crate::rows::amounts_in;
+use memory::column::amounts_in;
+use memory::column::fees_in;
 use memory::head::accepted;
-use memory::head::fees;
 use memory::head::head_bytes;
 use memory::head::is_paired;
 use memory::head::is_waiting;
@@ -60,9 +60,9 @@ fn need_at(memory: &[u8], i: usize, k: usize, money: Money) -> Sum
     if !is_paired(head) {
         return Sum::of(money, 0);
     }
-    let n = orders(head);
+    let n = orders(head) as usize;
     match money {
-        Money::K => Sum::Amounts(amounts_in(memory, k, n as usize)),
-        Money::O => Sum::Fees(fees(head, n)),
+        Money::K => Sum::Amounts(amounts_in(memory, k, n)),
+        Money::O => Sum::Fees(fees_in(memory, k, n)),
     }
 }

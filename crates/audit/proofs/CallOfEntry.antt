@@ -13,23 +13,27 @@ use Rattle.text.proofs.Branches.{and-right, either-way}
 use Rattle.calendar.specs.Calendar.{real}
 use Rattle.money.specs.declared.Money.{Money}
 use Rattle.epe.specs.Ident.{identOf}
-use Rattle.epe.specs.Profile.{feesFit, profileFits}
+use Rattle.epe.specs.Questions.{firstNo}
+use Rattle.epe.specs.Profile.{feesFit, profileFits, profileQuestions}
 use Rattle.epe.specs.declared.profile.Profile.{Profile}
+use Rattle.epe.specs.declared.verdict.Verdict.the-variants.{Refused}
+use Rattle.epe.proofs.QuestionLaws.{asked-no}
 use Rattle.model.specs.Calls.{GoAhead, Pair, Close, OnOrder, Return, Intake, Transfer, On}
 use Rattle.model.specs.declared.Deed.the-variants.{Post, Pay, MarkUndelivered, Withdraw}
 use Rattle.model.specs.declared.Route.{Route}
 use Rattle.book.specs.Numbers.{routeOf, moneyOf}
 use Rattle.audit.specs.Journal.{callByte, entryNumber, entryText, profileIn, actIn, callIn, entryLength, isCall, hasNoMore, callKnown, entryFits}
 
--- fees that are none spoil a profile
-pub unfit : (profile : Profile) → feesFit (profile .fees) ≡ false → profileFits profile ≡ false
-unfolding profileFits
-unfit profile h = by (real (profile .today .0)) (eqb (length (profile .fees)) 5) (feesFit (profile .fees)) (between 19 32 (profile .fields)) h
+-- flat parts that are no fees spoil a profile, before its rates are asked about
+pub unfit : (profile : Profile) → feesFit (profile .flat) ≡ false → firstNo (profileQuestions profile) ≡ Refused 905
+unfolding profileQuestions profileFits
+unfit profile h =
+    asked-no 905 _ _ _ (by (real (profile .today .0)) (eqb (length (profile .flat)) 5) (feesFit (profile .flat)) (between 19 32 (profile .fields)) h)
   where
-    by : (today five fees fields : Bool) → fees ≡ false → (today && ((five && fees) && fields)) ≡ false
-    by true true fees fields h = rw h
-    by true false fees fields h = refl
-    by false five fees fields h = refl
+    by : (today five flat fields : Bool) → flat ≡ false → (today && ((five && flat) && fields)) ≡ false
+    by true true flat fields h = rw h
+    by true false flat fields h = refl
+    by false five flat fields h = refl
 
 -- a whole entry has one of the calls
 pub call-known : (entry : List ℕ) → entryFits entry ≡ true → callByte entry ≤ 9

@@ -11,6 +11,7 @@ use Rattle.epe.specs.declared.ident.Ident.{Ident}
 use Rattle.model.specs.Book.{Book, step}
 use Rattle.model.specs.Demand.{run, events, leaves, timesLeft, AtCall, AtEachCall}
 use Rattle.model.proofs.Demand3.{demand3}
+use Rattle.model.proofs.Divided.{always-divided}
 use Rattle.memory.specs.Read.{readBook}
 use Rattle.model.proofs.Asking.{refusal-moves-nothing}
 use Rattle.book.specs.Does.{Does}
@@ -89,5 +90,6 @@ listed start made held chain =
       never-below-zero = λ p ident money. rw (at p) (demand .never-below-zero p ident money);
       never-twice = λ money ident j. rw (times-left calls money ident j) (demand .never-twice money ident j);
       at-each-call = at-each calls (demand .at-each-call);
+      divided = λ p. rw (at p) (always-divided (callsOf made) p);
       never-unread = as-read calls;
     }

@@ -11,6 +11,7 @@ use Rattle.text.proofs.Branches.{both-yes, either-way, cond-either, and-left, a
 use Rattle.money.specs.Money.{isTransfer}
 use Rattle.money.specs.declared.Money.{Money}
 use Rattle.epe.specs.Questions.{Question, _elseNo_, asked}
+use Rattle.epe.specs.Profile.{profileQuestions}
 use Rattle.epe.specs.Name.{nameQuestions, titleQuestions, titleOf}
 use Rattle.epe.specs.Opening.{fileQuestions, fixedQuestions, repeatedQuestions, openingQuestions}
 use Rattle.contents.specs.Contents.{dateQuestions, statedQuestions, recordQuestions, contentsQuestions, orders}
@@ -96,12 +97,16 @@ step-other book (Transfer title amount) not-intake =
 step-other book (On ident act) not-intake =
     first-answer (acted act) (λ (answer : Answer). isOther 10 answer ≡ true) refl (acted-other act) (isCalled ident) book
 
+profile-other : (profile : Profile) → areOther 900 (profileQuestions profile) ≡ true
+unfolding profileQuestions
+profile-other profile = refl
+
 opening-other : (name file : List ℕ) → areOther 900 (openingQuestions name file) ≡ true
 unfolding openingQuestions fileQuestions nameQuestions fixedQuestions repeatedQuestions
 opening-other name file = refl
 
 contents-other : (profile : Profile) (file : List ℕ) → areOther 900 (contentsQuestions profile file) ≡ true
-unfolding contentsQuestions dateQuestions statedQuestions recordQuestions
+unfolding contentsQuestions profileQuestions dateQuestions statedQuestions recordQuestions
 contents-other profile file = refl
 
 intake-other : (book : Book) (call : Call) → isIntake call ≡ true → isOther 900 (step book call .answer) ≡ true
@@ -109,7 +114,8 @@ unfolding step takenIn intakeQuestions
 intake-other book (Intake profile name file) is-intake =
     let contents-on = are-other 900 (contentsQuestions profile file) (roomQuestions (length (orders file)) book) (contents-other profile file) refl in
     asked-other 900 stepAnswer (intakeQuestions profile name file book) (refusingIn book) _ (λ number. refl)
-    (are-other 900 (openingQuestions name file) _ (opening-other name file) contents-on) refl
+    (are-other 900 (profileQuestions profile) _ (profile-other profile)
+    (are-other 900 (openingQuestions name file) _ (opening-other name file) contents-on)) refl
 intake-other book (Transfer title amount) is-intake = cc
 intake-other book (On ident act) is-intake = cc
 

@@ -20,6 +20,7 @@ use Rattle.model.specs.Calls.{Call}
 use Rattle.model.specs.Book.{Book, step}
 use Rattle.model.specs.Demand.{Event, run, events, timesLeft, AtEachCall}
 use Rattle.model.proofs.Demand3.{demand3}
+use Rattle.model.proofs.Divided.{always-divided}
 use Rattle.memory.specs.Layout.{size}
 use Rattle.memory.specs.Read.{bookIn, soundIn, readBook}
 use Rattle.book.specs.Does.{Does}
@@ -195,6 +196,7 @@ listed-with-pairs start list held chain =
       never-below-zero = λ p ident money. rw (at p) (demand .never-below-zero (callsBefore list p) ident money);
       never-twice = λ money ident j. rw (times-left-with-pairs calls money ident j) (demand .never-twice money ident j);
       at-each-link = at-each-with-pairs calls (demand .at-each-call);
+      divided = λ p. rw (at p) (always-divided (callsOf (without list)) (callsBefore list p));
       never-unread = as-read-with-pairs calls;
     }
 

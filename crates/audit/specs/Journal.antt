@@ -7,10 +7,12 @@
 -- A call takes its numbers and texts by place. A number that an entry does not have is 0, a text that it does not have is empty, and it has no more than
 -- its call takes: so what a call takes later has the next place, and every journal of today means the same then.
 use mathlib.Core.Bool.{Bool, cond, _&&_}
-use mathlib.Core.List.{List, [], _∷_}
+use mathlib.Core.List.{List, [], _∷_, map}
 use Prim.Native.Nat.{ℕ, zero, suc, _+_, _*_}
 use lib.Dec.{leb, ltb, eqb}
 use lib.ListN.{length, getD, take, drop}
+use Rattle.fee.specs.Fee.{rate}
+use Rattle.fee.specs.declared.Rate.{Rate}
 use Rattle.epe.specs.Ident.{identOf}
 use Rattle.epe.specs.Profile.{asFees}
 use Rattle.epe.specs.declared.profile.Profile.{Profile}
@@ -50,13 +52,22 @@ textStart entry (suc j) = textStart entry j + textLength entry j
 abbrev pub entryText : List ℕ → ℕ → List ℕ
 entryText entry j = take (textLength entry j) (drop (textStart entry j) entry)
 
--- An intake takes the numbers today, five fees and fields, and the texts name and file; a transfer the number amount and the text title. Each other
--- call takes the text identifier; post, pay, mark undelivered and withdraw the number order, and a return the numbers route and money.
+-- An intake takes the numbers today, five flat parts, fields and five rates, and the texts name and file; a transfer the number amount and the text
+-- title. Each other call takes the text identifier; post, pay, mark undelivered and withdraw the number order, and a return the numbers route and money.
+-- The rates came last (document 02, A5), so that an intake of before, which has seven numbers, has rates of 0.
 abbrev pub feesIn : List ℕ → List ℕ
 feesIn entry = entryNumber entry 1 ∷ entryNumber entry 2 ∷ entryNumber entry 3 ∷ entryNumber entry 4 ∷ entryNumber entry 5 ∷ []
 
+abbrev pub ratesIn : List ℕ → List Rate
+ratesIn entry = map rate (entryNumber entry 7 ∷ entryNumber entry 8 ∷ entryNumber entry 9 ∷ entryNumber entry 10 ∷ entryNumber entry 11 ∷ [])
+
 abbrev pub profileIn : List ℕ → Profile
-profileIn entry = record { today = record { 0 = entryNumber entry 0 }; fees = asFees (feesIn entry); fields = entryNumber entry 6 }
+profileIn entry = record {
+  today = record { 0 = entryNumber entry 0 };
+  flat = asFees (feesIn entry);
+  fields = entryNumber entry 6;
+  rates = ratesIn entry;
+}
 
 unfoldable pub actIn : List ℕ → Act
 actIn entry =
@@ -84,7 +95,7 @@ isCall entry = cond (eqb (callByte entry) 9) (areKnown (entryNumber entry 0) (en
 
 -- How many numbers and texts a call takes, and that an entry has no more.
 unfoldable pub numbersTaken : ℕ → ℕ
-numbersTaken call = cond (eqb call 0) 7 (cond (eqb call 1) 1 (cond (leb call 4) 0 (cond (leb call 8) 1 2)))
+numbersTaken call = cond (eqb call 0) 12 (cond (eqb call 1) 1 (cond (leb call 4) 0 (cond (leb call 8) 1 2)))
 
 unfoldable pub textsTaken : ℕ → ℕ
 textsTaken call = cond (eqb call 0) 2 1

@@ -14,6 +14,7 @@ use Rattle.model.specs.Shipment.{onlyIf, sumOver}
 use Rattle.model.specs.Calls.{Call, Intake, Transfer, On, Return, Answer, Refused, isRefusal, waiting}
 use Rattle.model.specs.Book.{Book, find}
 use Rattle.model.specs.Moved.{moved}
+use Rattle.model.specs.Sound.{AllDivided}
 use Rattle.model.specs.Demand.{Event, isFor, acceptedFor, leftFor, events, bookAt, ofShipment, heldIn, freeIn, Covered}
 use Rattle.model.specs.Demand.{orderByIndex, ordersOf, worthOfOrder, below}
 use Rattle.model.specs.declared.Route.{Route}
@@ -117,6 +118,9 @@ pub record Listed (start : List ℕ) (made : List Made) : Type 0 where
   -- ".. and no order's money leaves twice or in part."
   pub never-twice : (money : Money) (ident : Ident) (j : ℕ) → timesLeftBytes money ident j start made ≤ 1
   pub at-each-call : AtEachMade start made
+  -- "For every shipment, 10,000 times the sum of the rated parts plus the sum of the remainders equals the rate times the sum of the amounts." (document
+  -- 02, A5): of every shipment in the bytes, at every point.
+  pub divided : (p : ℕ) → AllDivided (bookInBytes (memoryAt start made p))
   -- Memory that only these calls write is always a sound book, so that no call but an intake ever answers 10 (of an intake it is document 01's 010),
   -- and no intake ever answers 900.
   pub never-unread : AnsweredAsRead made

@@ -35,6 +35,7 @@ pub record RowAsAnswered (money : Money) (row : SheetRow) (book : Book) (answere
   pub held : sums money row .held ≡ heldIn money (row .ident) book
   pub free : sums money row .free ≡ freeIn money (row .ident) book
   -- "An accepted post answers F, pay the order's amount, a return its sum and count; demand 3 counts these answers as what left .."
+  -- "Earned and returned fees are each order's own from here on, .." (document 02, A5).
   pub left : sums money row .left ≡ sumOver (leftFor money (row .ident)) answered
   pub balances : sums money row .accepted ≡ sums money row .held + sums money row .free + sums money row .left
 

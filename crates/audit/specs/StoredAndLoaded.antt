@@ -12,6 +12,7 @@ use Rattle.epe.specs.declared.ident.Ident.{Ident}
 use Rattle.write.specs.declared.Writing.the-variants.{Written}
 use Rattle.model.specs.Shipment.{onlyIf, sumOver}
 use Rattle.model.specs.Book.{Book, find}
+use Rattle.model.specs.Sound.{AllDivided}
 use Rattle.model.specs.Demand.{Event, acceptedFor, leftFor, events, bookAt, heldIn, freeIn, Covered}
 use Rattle.memory.specs.Read.{readBook}
 use Rattle.book.specs.Does.{Does}
@@ -86,6 +87,7 @@ pub record ListedWithPairs (start : List ℕ) (list : List Link) : Type 0 where
   pub never-below-zero : (p : ℕ) (ident : Ident) (money : Money) → Covered money (find ident (bookInBytes (memoryAtPoint start list p)))
   pub never-twice : (money : Money) (ident : Ident) (j : ℕ) → timesLeftWithPairs money ident j start list ≤ 1
   pub at-each-link : AtEachLink start list
+  pub divided : (p : ℕ) → AllDivided (bookInBytes (memoryAtPoint start list p))
   pub never-unread : AnsweredAsRead (without list)
 
 abbrev pub ListedWithPairsFromEmpty : Type 0

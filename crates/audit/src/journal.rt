@@ -3,6 +3,7 @@ use book::numbers::are_known;
 use calendar::date::Date;
 use epe::profile::Profile;
 use epe::profile::fees_of;
+use fee::Rate;
 use memory::number::read_eight;
 use text::bytes::first;
 use text::bytes::rest;
@@ -12,7 +13,7 @@ ghost use Prim.Native.Nat.{_+_, _≤_, _<_, min};
 ghost use lib.ListN.{length, getD};
 ghost use Rattle.epe.specs.Profile.{asFees, feesFit};
 ghost use Rattle.audit.specs.Journal.{entryNumber, lengthsStart, textsStart, textLength, textStart, entryText};
-ghost use Rattle.audit.specs.Journal.{feesIn, profileIn, entryLength, isCall, numbersTaken, textsTaken, hasNoMore, callKnown, entryFits, entriesFit, journalFits};
+ghost use Rattle.audit.specs.Journal.{feesIn, ratesIn, profileIn, entryLength, isCall, numbersTaken, textsTaken, hasNoMore, callKnown, entryFits, entriesFit, journalFits};
 
 // The number at a place, 0 where the entry has none.
 pub fn entry_number(entry: &[u8], k: usize) -> u64
@@ -34,7 +35,7 @@ pub fn entry_text(entry: &[u8], j: usize) -> &[u8]
     first(rest(entry, at), text_length(entry, j) as usize)
 }
 
-// The numbers that stand for the five fees of the profile.
+// The numbers that stand for the five flat parts of the profile.
 pub fn fees_in(entry: &[u8]) -> [u64; 5]
     requires { ⌜ textsStart (now entry) ≤ length (now entry) ⌝ }
     ensures { λ r. ⌜ r ≡ feesIn (now (entry .entry)) ⌝ }
@@ -48,16 +49,17 @@ pub fn fees_in(entry: &[u8]) -> [u64; 5]
     ]
 }
 
-// The profile of an entry whose fees are fees.
+// The profile of an entry whose flat parts are fees.
 pub fn profile_in(entry: &[u8]) -> Profile
     requires { ⌜ (textsStart (now entry) ≤ length (now entry)) × (feesFit (asFees (feesIn (now entry))) ≡ true) ⌝ }
     ensures { λ r. ⌜ r ≡ profileIn (now (entry .entry)) ⌝ }
 {
-    let fees = fees_of(fees_in(entry));
+    let flat = fees_of(fees_in(entry));
     Profile {
         today: Date(entry_number(entry, 0)),
-        fees,
+        flat,
         fields: entry_number(entry, 6),
+        rates: rates_in(entry),
     }
 }
 
@@ -112,6 +114,20 @@ fn text_length(entry: &[u8], j: usize) -> u64
         return read_eight(entry, lengths_start(entry) + 8 * j);
     }
     0
+}
+
+// The five rates of the profile, whatever their numbers.
+fn rates_in(entry: &[u8]) -> [Rate; 5]
+    requires { ⌜ textsStart (now entry) ≤ length (now entry) ⌝ }
+    ensures { λ r. ⌜ r ≡ ratesIn (now (entry .entry)) ⌝ }
+{
+    [
+        Rate(entry_number(entry, 7)),
+        Rate(entry_number(entry, 8)),
+        Rate(entry_number(entry, 9)),
+        Rate(entry_number(entry, 10)),
+        Rate(entry_number(entry, 11)),
+    ]
 }
 
 // Are the bytes n whole entries, and nothing else?
@@ -201,7 +217,7 @@ fn numbers_taken(call: u8) -> usize
     ensures { λ r. ⌜ r ≡ numbersTaken call ⌝ }
 {
     if call == 0 {
-        return 7;
+        return 12;
     }
     if call == 1 {
         return 1;

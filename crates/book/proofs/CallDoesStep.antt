@@ -74,7 +74,7 @@ module _ {is : List ℕ → Bool} {does : Shipment → Outcome} {call : Call} (s
     stepped =
         let at-shipment = at-place is m i k placed in
         let whole = sound-parts m (at-shipment .0) in
-        rw (act .only .shipments) (seeks .steps (bookIn m) ∙ first-acted seeks act (at-shipment .1) (omega arith))
+        rw (act .only .shipments) (seeks .steps (bookIn m) ∙ first-acted seeks act (at-shipment .1) (omega arith) (omega (arith, whole .rows)))
 
     sound-after : soundIn m′ ≡ true
     unfolding soundIn

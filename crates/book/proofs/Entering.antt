@@ -2,21 +2,24 @@
 -- Assumes nothing.
 use mathlib.Core.Path.{_≡_, refl, sym, ap, _∙_}
 use mathlib.Core.List.{List, _∷_, map}
-use Prim.Native.Nat.{ℕ, zero, suc, _+_, _-_, _≤_, _<_, _^_}
+use Prim.Native.Nat.{ℕ, zero, suc, _+_, _-_, _≤_, _<_}
 use native.Mathlib.Numerals.{add-one}
 use native.Mathlib.Omega.{arith}
 use lib.ListN.{getD, set, length-set}
 use lib.Seq.{getD-set-same, getD-set-other}
-use Rattle.contents.specs.Accepted.{OrderInRange, EachInRange}
+use Rattle.money.specs.Money.{WithinOrder}
+use Rattle.fee.specs.Fee.{TermsFit, feeOf}
+use Rattle.fee.specs.declared.Terms.{Terms}
+use Rattle.contents.specs.Accepted.{OrderInRange, EachInRange, EachCharged}
 use Rattle.contents.specs.Kept.{orderIn, ordersIn}
 use Rattle.epe.specs.declared.name.Name.{Name}
 use Rattle.contents.specs.declared.record.Order.{Order}
+use Rattle.model.specs.Shipment.{mostRows}
 use Rattle.model.specs.Book.{enteredRow, newShipment, rowsIn}
 use Rattle.memory.specs.Layout.{headBytes, rowBytes}
-use Rattle.memory.specs.States.{lastFault}
 use Rattle.memory.specs.Rows.{rowOf}
 use Rattle.memory.specs.Read.{rowsFrom, shipmentAt, shipmentsFrom, bookIn}
-use Rattle.memory.specs.Inner.Enter.{OrderEntered, HeadEntered}
+use Rattle.memory.specs.Inner.Enter.{Enterable, OrderEntered, HeadEntered}
 use Rattle.memory.proofs.Parts.{number-heads, number-rows}
 use Rattle.memory.proofs.Frames.{heads-kept, rows-kept}
 use Rattle.acts.specs.Inner.Place.{RowsStored}
@@ -24,7 +27,7 @@ use Rattle.acts.proofs.RowsInTurn.{one-more-stored}
 use Rattle.book.specs.Inner.Entering.{keptRow, Fits, ShipmentEntered}
 use Rattle.book.proofs.Appending.{appended, flags-alike}
 
--- each order of a table in range
+-- each order of a table in range, and with a fee
 order-in-range : (kept : List ℕ) (j n i : ℕ) → EachInRange (ordersIn kept j n) → i < n → OrderInRange (orderIn kept (j + i))
 unfolding ordersIn
 order-in-range kept j zero i all within = absurd (omega arith)
@@ -32,38 +35,47 @@ order-in-range kept j (suc n) zero all within = let here : j + 0 ≡ j = omega a
 order-in-range kept j (suc n) (suc i) all within =
     let next : j + suc i ≡ j + 1 + i = omega arith in rw next (order-in-range kept (j + 1) n i (all .1) (omega arith))
 
-pub kept-in-range : (kept : List ℕ) (n i : ℕ) {order : Order} → EachInRange (ordersIn kept 0 n) → i < n → order ≡ orderIn kept i
-    → (order .amount .0 < 2 ^ 32) × (order .fault ≤ lastFault)
-kept-in-range kept n i all within is =
+order-charged : (terms : Terms) (kept : List ℕ) (j n i : ℕ) → EachCharged terms (ordersIn kept j n) → i < n
+    → WithinOrder (feeOf terms (orderIn kept (j + i) .amount .0))
+unfolding ordersIn
+order-charged terms kept j zero i all within = absurd (omega arith)
+order-charged terms kept j (suc n) zero all within = let here : j + 0 ≡ j = omega arith in rw here (all .0)
+order-charged terms kept j (suc n) (suc i) all within =
+    let next : j + suc i ≡ j + 1 + i = omega arith in rw next (order-charged terms kept (j + 1) n i (all .1) (omega arith))
+
+pub kept-enterable : (terms : Terms) (kept : List ℕ) (n i : ℕ) {order : Order} → TermsFit terms → EachInRange (ordersIn kept 0 n)
+    → EachCharged terms (ordersIn kept 0 n) → i < n → order ≡ orderIn kept i → Enterable terms order
+kept-enterable terms kept n i terms-fit all charged within is =
     let here : 0 + i ≡ i = omega arith in
     let range = rw here at (order-in-range kept 0 n i all within) in
-    rw is (omega (arith, range .to-the-cap), range .fault-known)
+    let fee = rw here at (order-charged terms kept 0 n i charged within) in
+    rw is (record { terms-fit = terms-fit; amount-fits = range .to-the-cap; fee-fits = fee; fault-known = range .fault-known })
 
 -- one order more
-pub one-more-entered : (kept : List ℕ) {l m m′ : List ℕ} {k n : ℕ} {order : Order} → RowsStored (keptRow k kept) k n l m → order ≡ orderIn kept n
-    → OrderEntered order (k + n) m m′ → RowsStored (keptRow k kept) k (n + 1) l m′
-one-more-entered kept {l} {m} {m′} {k} {n} rest is one =
+pub one-more-entered : (terms : Terms) (kept : List ℕ) {l m m′ : List ℕ} {k n : ℕ} {order : Order} → k + n < mostRows
+    → RowsStored (keptRow terms k kept) k n l m → order ≡ orderIn kept n → OrderEntered terms order (k + n) m m′ → RowsStored (keptRow terms k kept) k (n + 1) l m′
+one-more-entered terms kept {l} {m} {m′} {k} {n} there rest is one =
     let place : k + n - k ≡ n = omega arith in
-    one-more-stored rest (one .row ∙ ap enteredRow (is ∙ ap (orderIn kept) (sym place))) (one .only)
+    one-more-stored there rest (one .row ∙ ap (enteredRow terms) (is ∙ ap (orderIn kept) (sym place))) (one .only)
 
 -- all orders, as the rows of a shipment
-listed-rows : (m kept : List ℕ) (k j n : ℕ) → ((i : ℕ) → i < n → rowOf (rowBytes m (k + i)) ≡ enteredRow (orderIn kept (j + i)))
-    → rowsFrom m k n ≡ map enteredRow (ordersIn kept j n)
+listed-rows : (terms : Terms) (m kept : List ℕ) (k j n : ℕ) → ((i : ℕ) → i < n → rowOf (rowBytes m (k + i)) ≡ enteredRow terms (orderIn kept (j + i)))
+    → rowsFrom m k n ≡ map (enteredRow terms) (ordersIn kept j n)
 unfolding rowsFrom ordersIn
-listed-rows m kept k j zero each = refl
-listed-rows m kept k j (suc n) each =
+listed-rows terms m kept k j zero each = refl
+listed-rows terms m kept k j (suc n) each =
     let row : k + 0 ≡ k = omega arith in
     let entry : j + 0 ≡ j = omega arith in
-    let first : rowOf (rowBytes m k) ≡ enteredRow (orderIn kept j) = rw (row, entry) at (each 0 (omega arith)) in
-    let rest = listed-rows m kept (suc k) (j + 1) n (λ i within.
+    let first : rowOf (rowBytes m k) ≡ enteredRow terms (orderIn kept j) = rw (row, entry) at (each 0 (omega arith)) in
+    let rest = listed-rows terms m kept (suc k) (j + 1) n (λ i within.
     let next-row : suc k + i ≡ k + suc i = omega arith in
     let next-entry : j + 1 + i ≡ j + suc i = omega arith in
     rw (next-row, next-entry) (each (suc i) (omega arith))) in
     λ t. first t ∷ rest t
 
 -- then the head, and the number of shipments
-module _ (m m₁ m₂ : List ℕ) (i k : ℕ) (name : Name) (fee n : ℕ) (kept : List ℕ) (fits : Fits m i k name fee n kept)
-    (stored : RowsStored (keptRow k kept) k n m m₁) (head : HeadEntered name fee n i m₁ m₂) where
+module _ (m m₁ m₂ : List ℕ) (i k : ℕ) (name : Name) (terms : Terms) (n : ℕ) (kept : List ℕ) (fits : Fits m i k name terms n kept)
+    (stored : RowsStored (keptRow terms k kept) k n m m₁) (head : HeadEntered name terms n i m₁ m₂) where
   abbrev m′ : List ℕ
   m′ = set m₂ 0 (i + 1)
 
@@ -76,28 +88,30 @@ module _ (m m₁ m₂ : List ℕ) (i k : ℕ) (name : Name) (fee n : ℕ) (kept 
       number-heads m₂ (i + 1) j ∙ head .only .other-heads j (omega (arith, fits .few)) (λ same. omega arith) ∙ heads-kept (stored .only) j (omega (arith, fits .few))
 
   rows-before : (r : ℕ) → r < k → rowBytes m′ r ≡ rowBytes m r
-  rows-before r before = number-rows m₂ (i + 1) r ∙ rows-kept (head .only) r ∙ stored .only .other-rows r (λ among. omega (arith, among .0))
+  rows-before r before =
+      let there : r < mostRows = omega (arith, fits .room) in
+      number-rows m₂ (i + 1) r ∙ rows-kept (head .only) r there ∙ stored .only .other-rows r there (λ among. omega (arith, among .0))
 
-  rows-new : rowsFrom m′ k n ≡ map enteredRow (ordersIn kept 0 n)
+  rows-new : rowsFrom m′ k n ≡ map (enteredRow terms) (ordersIn kept 0 n)
   rows-new =
-      listed-rows m′ kept k 0 n (λ j within.
+      listed-rows terms m′ kept k 0 n (λ j within.
       let place : k + j - k ≡ 0 + j = omega arith in
-      ap rowOf (number-rows m₂ (i + 1) (k + j) ∙ rows-kept (head .only) (k + j))
+      ap rowOf (number-rows m₂ (i + 1) (k + j) ∙ rows-kept (head .only) (k + j) (omega (arith, fits .room)))
       ∙ stored .rows (k + j) (omega arith) (omega arith)
-      ∙ ap (λ p. enteredRow (orderIn kept p)) place)
+      ∙ ap (λ p. enteredRow terms (orderIn kept p)) place)
 
-  shipment-new : shipmentAt m′ i k ≡ newShipment name fee (map enteredRow (ordersIn kept 0 n))
+  shipment-new : shipmentAt m′ i k ≡ newShipment name terms (map (enteredRow terms) (ordersIn kept 0 n))
   shipment-new =
       rw (number-heads m₂ (i + 1) i, head .orders)
-      (head .shipment (rowsFrom m′ k n) ∙ ap (newShipment name fee) rows-new)
+      (head .shipment (rowsFrom m′ k n) ∙ ap (newShipment name terms) rows-new)
 
-  pub shipment-entered : ShipmentEntered (newShipment name fee (map enteredRow (ordersIn kept 0 n))) m m′
+  pub shipment-entered : ShipmentEntered (newShipment name terms (map (enteredRow terms) (ordersIn kept 0 n))) m m′
   unfolding bookIn
   shipment-entered = record {
     book =
         rw number-is
         (rw (← fits .last)
-        (appended m m′ i (newShipment name fee (map enteredRow (ordersIn kept 0 n))) heads-before
+        (appended m m′ i (newShipment name terms (map (enteredRow terms) (ordersIn kept 0 n))) heads-before
         (λ r before. rows-before r (omega (arith, fits .from, from-is)))
         (rw (← from-is) shipment-new)));
     flags = λ h.

@@ -8,12 +8,13 @@ use native.Mathlib.Omega.{arith}
 use borrow.Author.Tests.{eqb-true, eqb-false}
 use lib.Dec.{eqb}
 use Rattle.text.proofs.Branches.{either-way, and-left, and-right, both-yes}
-use Rattle.model.specs.Shipment.{mostShipments, Shipment}
+use Rattle.model.specs.Shipment.{mostShipments, mostRows, Shipment}
 use Rattle.model.specs.Calls.{Call, Answer, Refused, Outcome}
-use Rattle.model.specs.Book.{stay, onFirst}
+use Rattle.model.specs.Book.{stay, onFirst, rowsIn}
 use Rattle.memory.specs.Layout.{headBytes, rowBytes}
 use Rattle.memory.specs.Heads.{flagsInForm}
 use Rattle.memory.specs.Read.{rowsFrom, ordersAt, shipmentAt, shipmentsFrom, flagsFrom}
+use Rattle.sound.proofs.ReadLaws.{rows-next}
 use Rattle.acts.specs.declared.place.Place.the-variants.{Unknown}
 use Rattle.acts.specs.Inner.Place.{placeFrom, ActAt}
 use Rattle.acts.proofs.RowLaws.{rows-alike}
@@ -26,13 +27,15 @@ shipment-alike : (m m′ : List ℕ) (j s : ℕ) → headBytes m′ j ≡ headBy
 shipment-alike m m′ j s head rows = rw (head, rows-alike m m′ s (ordersAt m j) rows)
 
 module _ {m m′ : List ℕ} {i k : ℕ} {does : Shipment → Outcome} {answer : Answer} (act : ActAt m i k does answer m′) where
-  behind-alike : (j s n : ℕ) → i < j → k + ordersAt m i ≤ s → j + n ≤ mostShipments → shipmentsFrom m′ j s n ≡ shipmentsFrom m j s n
+  behind-alike : (j s n : ℕ) → i < j → k + ordersAt m i ≤ s → j + n ≤ mostShipments → s + rowsIn (shipmentsFrom m j s n) ≤ mostRows
+      → shipmentsFrom m′ j s n ≡ shipmentsFrom m j s n
   unfolding shipmentsFrom
-  behind-alike j s zero behind rows few = refl
-  behind-alike j s (suc n) behind rows few =
+  behind-alike j s zero behind rows few room = refl
+  behind-alike j s (suc n) behind rows few room =
+      let many = rows-next m j s n in
       let head = act .only .other-heads j (omega arith) (λ same. omega arith) in
-      let first = shipment-alike m m′ j s head (λ r from below. act .only .other-rows r (λ among. omega (arith, among .1))) in
-      let rest = behind-alike (suc j) (s + ordersAt m j) n (omega arith) (omega arith) (omega arith) in
+      let first = shipment-alike m m′ j s head (λ r from below. act .only .other-rows r (omega arith) (λ among. omega (arith, among .1))) in
+      let rest = behind-alike (suc j) (s + ordersAt m j) n (omega arith) (omega arith) (omega arith) (omega arith) in
       rw (first, head, rest)
 
   flag-kept : (j : ℕ) → j < mostShipments → flagsInForm (headBytes m j) ≡ true → flagsInForm (headBytes m′ j) ≡ true
@@ -62,15 +65,17 @@ module _ {is : List ℕ → Bool} {does : Shipment → Outcome} {call : Call} (s
       (λ other. rw (by-head, other, none-found m (suc j) (s + ordersAt m j) n (rw other at e)))
 
   pub first-acted : {m m′ : List ℕ} {i k j s n : ℕ} {answer : Answer} → ActAt m i k does answer m′ → Found is m i k j s n → j + n ≤ mostShipments
-      → onFirst (seeks .called) does (shipmentsFrom m j s n) ≡ record { book = shipmentsFrom m′ j s n; answer = answer }
+      → s + rowsIn (shipmentsFrom m j s n) ≤ mostRows → onFirst (seeks .called) does (shipmentsFrom m j s n) ≡ record { book = shipmentsFrom m′ j s n; answer = answer }
   unfolding shipmentsFrom
-  first-acted {m} {m′} {i} {k} act (here {n} fits) few =
+  first-acted {m} {m′} {i} {k} act (here {n} fits) few room =
+      let many = rows-next m i k n in
       let by-head = seeks .by-head (headBytes m i) (rowsFrom m k (ordersAt m i)) in
-      let rest = behind-alike act (suc i) (k + ordersAt m i) n (omega arith) (omega arith) (omega arith) in
+      let rest = behind-alike act (suc i) (k + ordersAt m i) n (omega arith) (omega arith) (omega arith) (omega arith) in
       rw (by-head, fits, act .leaves, act .orders, rest, act .answers)
-  first-acted {m} {m′} act (further {j} {s} {n} other later) few =
+  first-acted {m} {m′} act (further {j} {s} {n} other later) few room =
+      let many = rows-next m j s n in
       let by-head = seeks .by-head (headBytes m j) (rowsFrom m s (ordersAt m j)) in
       let place = within later in
       let head = act .only .other-heads j (omega arith) (λ same. omega arith) in
-      let first = shipment-alike m m′ j s head (λ r from below. act .only .other-rows r (λ among. omega (arith, among .0))) in
-      rw (by-head, other, first, head, first-acted act later (omega arith))
+      let first = shipment-alike m m′ j s head (λ r from below. act .only .other-rows r (omega arith) (λ among. omega (arith, among .0))) in
+      rw (by-head, other, first, head, first-acted act later (omega arith) (omega arith))

@@ -1,19 +1,20 @@
 -- What every call on lent memory promises, in one record: demand 2 is stated here, and demand 3 is made of exactly these.
 use mathlib.Core.Path.{_≡_}
-use mathlib.Core.Bool.{true, cond}
+use mathlib.Core.Bool.{true}
 use mathlib.Core.List.{List, []}
 use mathlib.Core.Option.{some, none}
 use Prim.Native.Nat.{ℕ, _≤_, _<_}
 use lib.ListN.{length, getD}
-use Rattle.epe.specs.Profile.{profileFits}
+use Rattle.epe.specs.Questions.{asked}
+use Rattle.epe.specs.Profile.{profileQuestions}
 use Rattle.model.specs.Calls.{Call, Intake, Transfer, On, Answer, Refused, Done, changesNothing}
 use Rattle.model.specs.Book.{Book, step}
 use Rattle.memory.specs.Layout.{size}
 use Rattle.memory.specs.Read.{readBook}
 
--- The answer where the memory is too short or no sound book: "10"; of an intake 900, unless its profile is refused before, with 905.
+-- The answer where the memory is too short or no sound book: "10"; of an intake 900, unless its profile is refused before, with 905 or 907.
 abbrev pub unreadable : Call → Answer
-unreadable (Intake profile name file) = Refused (cond (profileFits profile) 900 905)
+unreadable (Intake profile name file) = asked (profileQuestions profile) Refused (Refused 900)
 unreadable (Transfer title amount) = Refused 10
 unreadable (On ident act) = Refused 10
 

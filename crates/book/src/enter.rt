@@ -13,6 +13,7 @@ use epe::ident::Ident;
 use epe::name::Name;
 use epe::profile::Profile;
 use epe::verdict::Verdict;
+use fee::Terms;
 use memory::MOST_ROWS;
 use memory::MOST_SHIPMENTS;
 use memory::enter::enter_head;
@@ -21,22 +22,24 @@ use memory::head::head_bytes;
 use memory::head::orders;
 use memory::shipments;
 use memory::store_shipments;
-use money::Fee;
 ghost use mathlib.Core.Path.{_≡_};
 ghost use mathlib.Core.Bool.{true};
 ghost use mathlib.Core.List.{[], map};
-ghost use Prim.Native.Nat.{_+_, _≤_, _<_, _^_};
+ghost use Prim.Native.Nat.{_+_, _≤_};
 ghost use lib.ListN.{length};
+ghost use Rattle.fee.specs.Fee.{TermsFit};
 ghost use Rattle.epe.specs.Name.{nameInForm};
-ghost use Rattle.epe.specs.Profile.{profileFits};
-ghost use Rattle.contents.specs.Contents.{contentsQuestions, orders, faultyCount};
+ghost use Rattle.epe.specs.Questions.{firstNo};
+ghost use Rattle.epe.specs.File.{header};
+ghost use Rattle.epe.specs.Profile.{profileQuestions, termsFor};
+ghost use Rattle.contents.specs.Contents.{statedTerms, contentsQuestions, orders, faultyCount};
 ghost use Rattle.contents.specs.Steps.{statedOf};
-ghost use Rattle.contents.specs.Accepted.{EachInRange};
+ghost use Rattle.contents.specs.Accepted.{EachInRange, EachCharged};
 ghost use Rattle.contents.specs.Kept.{ordersIn};
 ghost use Rattle.epe.specs.declared.verdict.Verdict.the-variants.{Passed};
 ghost use Rattle.model.specs.Shipment.{mostShipments, mostRows};
 ghost use Rattle.model.specs.Calls.{Intake};
-ghost use Rattle.model.specs.Book.{feeFor, isUnknown, rowsIn, enteredRow, newShipment, entered};
+ghost use Rattle.model.specs.Book.{isUnknown, rowsIn, enteredRow, newShipment, entered};
 ghost use Rattle.memory.specs.Layout.{size};
 ghost use Rattle.memory.specs.Read.{shipmentsFrom, shipmentsIn, soundIn};
 ghost use Rattle.acts.specs.Answers.{acceptanceOf};
@@ -46,7 +49,7 @@ ghost use Rattle.book.specs.Inner.Entering.{keptRow, Fits, ShipmentEnter
 
 // Takes in an order file into a sound book.
 pub fn take_file(memory: &mut [u8], profile: Profile, name: &[u8], file: &[u8]) -> Acceptance
-    requires { ⌜ (profileFits profile ≡ true) × (soundIn (now memory) ≡ true) ⌝ }
+    requires { ⌜ (firstNo (profileQuestions profile) ≡ Passed) × (soundIn (now memory) ≡ true) ⌝ }
     ensures { λ r. ⌜ Does (now (memory .entry)) (Intake profile (now (name .entry)) (now (file .entry))) (acceptanceOf r) (now (memory .exit)) ⌝ }
 {
     let opening = open(name, file);
@@ -76,7 +79,7 @@ fn is_unknown(memory: &[u8], ident: Ident, n: usize) -> bool
 
 // Judges the contents of a file, and enters it behind the i shipments that there are.
 fn take_in(memory: &mut [u8], i: usize, profile: Profile, name: Name, file: &[u8]) -> Acceptance
-    requires { ⌜ (profileFits profile ≡ true) × (soundIn (now memory) ≡ true) × (i ≡ shipmentsIn (now memory)) × (nameInForm name ≡ true) ⌝ }
+    requires { ⌜ (firstNo (profileQuestions profile) ≡ Passed) × (soundIn (now memory) ≡ true) × (i ≡ shipmentsIn (now memory)) × (nameInForm name ≡ true) × (statedTerms profile (header (now file)) ≡ termsFor profile (name .kind)) ⌝ }
     ensures { λ r. ⌜ DoesEnter (contentsQuestions profile (now (file .entry))) (entered profile name (orders (now (file .entry)))) (length (orders (now (file .entry)))) (faultyCount (orders (now (file .entry)))) (now (memory .entry)) (acceptanceOf r) (now (memory .exit)) ⌝ }
 {
     let stated = judge_stated(profile, file);
@@ -96,24 +99,15 @@ fn take_records(
     stated: Stated,
     file: &[u8],
 ) -> Acceptance
-    requires { ⌜ (profileFits profile ≡ true) × (soundIn (now memory) ≡ true) × (i ≡ shipmentsIn (now memory)) × (nameInForm name ≡ true) × (stated ≡ statedOf profile (now file)) × (stated .verdict ≡ Passed) ⌝ }
+    requires { ⌜ (firstNo (profileQuestions profile) ≡ Passed) × (soundIn (now memory) ≡ true) × (i ≡ shipmentsIn (now memory)) × (nameInForm name ≡ true) × (statedTerms profile (header (now file)) ≡ termsFor profile (name .kind)) × (stated ≡ statedOf profile (now file)) × (stated .verdict ≡ Passed) ⌝ }
     ensures { λ r. ⌜ DoesEnter (contentsQuestions profile (now (file .entry))) (entered profile name (orders (now (file .entry)))) (length (orders (now (file .entry)))) (faultyCount (orders (now (file .entry)))) (now (memory .entry)) (acceptanceOf r) (now (memory .exit)) ⌝ }
 {
-    let fee = fee_of(profile, name.kind);
+    let terms = stated.terms;
     let mut kept = [0u64; MOST_ROWS];
-    match judge_records(profile.fields, stated.count, stated.sum, file, &mut kept) {
-        Judged::Accepted(n, faulty) => enter_behind(memory, i, name, fee, n, faulty, &kept),
+    match judge_records(profile.fields, stated, file, &mut kept) {
+        Judged::Accepted(n, faulty) => enter_behind(memory, i, name, terms, n, faulty, &kept),
         Judged::Refused(number) => Acceptance::Refused(number),
     }
-}
-
-// The fee of a kind.
-fn fee_of(profile: Profile, kind: u64) -> Fee
-    requires { ⌜ (profileFits profile ≡ true) × (kind ≤ 4) ⌝ }
-    ensures { λ r. ⌜ (r .0 ≡ feeFor profile kind) × (r .0 < 2 ^ 32) ⌝ }
-{
-    let fees = profile.fees;
-    fees[kind as usize]
 }
 
 // Enters a shipment of the first n orders that a table keeps behind the i that there are, if there is room.
@@ -121,13 +115,13 @@ fn enter_behind(
     memory: &mut [u8],
     i: usize,
     name: Name,
-    fee: Fee,
+    terms: Terms,
     n: u64,
     faulty: u64,
     kept: &[u64],
 ) -> Acceptance
-    requires { ⌜ Opened (now memory) i name (fee .0) × Counted n (now kept) ⌝ }
-    ensures { λ r. ⌜ DoesEnter [] (newShipment name (fee .0) (map enteredRow (ordersIn (now (kept .entry)) 0 n))) n faulty (now (memory .entry)) (acceptanceOf r) (now (memory .exit)) ⌝ }
+    requires { ⌜ Opened (now memory) i name terms × Counted terms n (now kept) ⌝ }
+    ensures { λ r. ⌜ DoesEnter [] (newShipment name terms (map (enteredRow terms) (ordersIn (now (kept .entry)) 0 n))) n faulty (now (memory .entry)) (acceptanceOf r) (now (memory .exit)) ⌝ }
 {
     if MOST_SHIPMENTS <= i {
         return Acceptance::Refused(refusals::SHIPMENTS);
@@ -136,7 +130,7 @@ fn enter_behind(
     if ((MOST_ROWS - k) as u64) < n {
         return Acceptance::Refused(refusals::ROWS);
     }
-    enter(memory, i, k, name, fee, n, kept);
+    enter(memory, i, k, name, terms, n, kept);
     Acceptance::Accepted(n, faulty)
 }
 
@@ -157,21 +151,21 @@ fn rows_of(memory: &[u8], n: usize) -> usize
 }
 
 // Enters a shipment of the first n orders that a table keeps as the i-th, its rows from the k-th on.
-fn enter(memory: &mut [u8], i: usize, k: usize, name: Name, fee: Fee, n: u64, kept: &[u64])
-    requires { ⌜ Fits (now memory) i k name (fee .0) n (now kept) ⌝ }
-    ensures { λ _. ⌜ ShipmentEntered (newShipment name (fee .0) (map enteredRow (ordersIn (now (kept .entry)) 0 n))) (now (memory .entry)) (now (memory .exit)) ⌝ }
+fn enter(memory: &mut [u8], i: usize, k: usize, name: Name, terms: Terms, n: u64, kept: &[u64])
+    requires { ⌜ Fits (now memory) i k name terms n (now kept) ⌝ }
+    ensures { λ _. ⌜ ShipmentEntered (newShipment name terms (map (enteredRow terms) (ordersIn (now (kept .entry)) 0 n))) (now (memory .entry)) (now (memory .exit)) ⌝ }
 {
-    enter_orders(memory, k, n as usize, kept);
-    enter_head(memory, i, name, fee, n);
+    enter_orders(memory, k, n as usize, terms, kept);
+    enter_head(memory, i, name, terms, n);
     store_shipments(memory, i + 1);
 }
 
 // Enters the first n orders that a table keeps, in the rows from the k-th on.
-fn enter_orders(memory: &mut [u8], k: usize, n: usize, kept: &[u64])
-    requires { ⌜ (k + n ≤ mostRows) × (size ≤ length (now memory)) × EachInRange (ordersIn (now kept) 0 n) ⌝ }
-    ensures { λ _. ⌜ RowsStored (keptRow k (now (kept .entry))) k n (now (memory .entry)) (now (memory .exit)) ⌝ }
+fn enter_orders(memory: &mut [u8], k: usize, n: usize, terms: Terms, kept: &[u64])
+    requires { ⌜ (k + n ≤ mostRows) × (size ≤ length (now memory)) × TermsFit terms × EachInRange (ordersIn (now kept) 0 n) × EachCharged terms (ordersIn (now kept) 0 n) ⌝ }
+    ensures { λ _. ⌜ RowsStored (keptRow terms k (now (kept .entry))) k n (now (memory .entry)) (now (memory .exit)) ⌝ }
 {
     for done in 0..n {
-        enter_order(memory, k + done, order_in(kept, done));
+        enter_order(memory, k + done, terms, order_in(kept, done));
     }
 }

@@ -26,7 +26,8 @@ use epe::ident::Ident;
 use epe::name::Name;
 use epe::name::read_title;
 use epe::profile::Profile;
-use epe::profile::profile_fits;
+use epe::profile::judge_profile;
+use epe::verdict::Verdict;
 use epe::verdict::is_passed;
 use memory::SIZE;
 use memory::head::head_bytes;
@@ -66,8 +67,9 @@ pub fn make_empty(memory: &mut [u8]) -> Completion
 pub fn intake(memory: &mut [u8], profile: Profile, name: &[u8], file: &[u8]) -> Acceptance
     ensures { λ r. ⌜ Does (now (memory .entry)) (Intake profile (now (name .entry)) (now (file .entry))) (acceptanceOf r) (now (memory .exit)) ⌝ }
 {
-    if !profile_fits(profile) {
-        return Acceptance::Refused(epe::refusals::PROFILE);
+    let verdict = judge_profile(profile);
+    if let Verdict::Refused(number) = verdict {
+        return Acceptance::Refused(number);
     }
     if !is_sound(memory) {
         return Acceptance::Refused(refusals::UNREADABLE);

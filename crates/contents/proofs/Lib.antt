@@ -1,4 +1,3 @@
-pub mod StatedLaws
 pub mod FaultLaws
 pub mod TallyWalk
 pub mod TallyJudges

@@ -7,8 +7,8 @@ use Prim.Native.Nat.{ℕ, _+_}
 use borrow.Author.Tests.{le-leb}
 use Rattle.text.proofs.Branches.{and-left, and-right}
 use Rattle.epe.specs.Questions.{Question, firstNo, isPassed}
-use Rattle.epe.specs.File.{records}
-use Rattle.epe.specs.Profile.{profileFits}
+use Rattle.epe.specs.File.{header, records}
+use Rattle.epe.specs.Profile.{profileFits, profileQuestions}
 use Rattle.epe.specs.declared.verdict.Verdict.{Verdict}
 use Rattle.epe.specs.declared.verdict.Verdict.the-variants.{Passed, Refused}
 use Rattle.epe.specs.declared.profile.Profile.{Profile}
@@ -16,7 +16,7 @@ use Rattle.epe.proofs.Asking.{join-no, join-yes}
 use Rattle.epe.proofs.QuestionLaws.{all-yes, all-yes-passed, yes-before}
 use Rattle.epe.proofs.ProfileLaws.{fields-allowed}
 use Rattle.contents.specs.Contents.{shaped, allShaped, orderOf, orders, recordQuestions, contentsQuestions, contents, judgedOf, linesRead, ordersRead, AcceptedIsRead, dateQuestions, statedQuestions, headerQuestions}
-use Rattle.contents.specs.Steps.{statedBeside, statedOf, noneKept, keptWhere, judgedRecords, recordsOf, recordsBehind, TwoStepsAreContents}
+use Rattle.contents.specs.Steps.{statedIn, statedOf, noneKept, keptWhere, judgedRecords, recordsOf, recordsBehind, TwoStepsAreContents}
 use Rattle.contents.specs.Kept.{keptFrom}
 use Rattle.contents.specs.declared.record.Order.{Order}
 
@@ -34,25 +34,25 @@ all-read r n (line ∷ lines) h =
     (ap (λ read. line ∷ read) (all-read r (n + 1) lines (and-right (shaped r n line) (allShaped r (n + 1) lines) h)))
 
 pub accepted-is-read : AcceptedIsRead
-unfolding contents contentsQuestions dateQuestions statedQuestions recordQuestions ordersRead orders
+unfolding contents contentsQuestions profileQuestions dateQuestions statedQuestions recordQuestions ordersRead orders
 accepted-is-read profile file passed =
     let yes = all-yes (contentsQuestions profile file) passed in
-    ap (map orderOf) (all-read (profile .fields) 1 (records file) (yes .1 .1 .1 .1 .1 .1 .1 .1 .1 .1 .0))
+    ap (map orderOf) (all-read (profile .fields) 1 (records file) (yes .1 .1 .1 .1 .1 .1 .1 .1 .1 .1 .1 .0))
 
 -- the two steps, one behind the other
 module _ (profile : Profile) (file : List ℕ) where
   abbrev first : List Question
-  first = headerQuestions profile file
+  first = headerQuestions profile (header file)
 
   abbrev second : List Question
-  second = recordQuestions (profile .fields) (statedOf profile file .count) (statedOf profile file .sum) (records file)
+  second = recordQuestions (profile .fields) (statedOf profile file .count) (statedOf profile file .sum) (statedOf profile file .terms) (records file)
 
   in-two : contents profile file ≡ firstNo (first ++ second)
-  unfolding contents contentsQuestions statedOf statedBeside
+  unfolding contents contentsQuestions statedOf statedIn
   in-two = refl
 
   verdict-first : statedOf profile file .verdict ≡ firstNo first
-  unfolding statedOf statedBeside
+  unfolding statedOf statedIn
   verdict-first = refl
 
   allowed : profileFits profile ≡ true → recordsBehind profile file .judged ≡ judgedOf (firstNo second) (orders file)
@@ -63,10 +63,13 @@ module _ (profile : Profile) (file : List ℕ) where
   unfolding isPassed
   refused-first n refused = in-two ∙ sym (join-no first second (Refused n) (sym refused ∙ verdict-first) refl)
 
+  profile-asked : statedOf profile file .verdict ≡ Passed → profileFits profile ≡ true
+  unfolding profileQuestions
+  profile-asked passed = all-yes first (sym verdict-first ∙ passed) .0
+
   decided-second : statedOf profile file .verdict ≡ Passed → recordsBehind profile file .judged ≡ judgedOf (contents profile file) (orders file)
   decided-second passed =
-      let fits = all-yes first (sym verdict-first ∙ passed) .0 in
-      allowed fits
+      allowed (profile-asked passed)
       ∙ judged-after first second (orders file) (sym verdict-first ∙ passed)
       ∙ ap (λ (v : Verdict). judgedOf v (orders file)) (sym in-two)
 

@@ -10,13 +10,15 @@ use Rattle.text.specs.Quoted.{bytes}
 use Rattle.text.specs.Number.{number, isNumber, valueOf}
 use Rattle.text.specs.Fields.{fields}
 use Rattle.text.specs.Lines.{stray}
-use Rattle.money.specs.Money.{amount, isAmount, groszeOf}
+use Rattle.money.specs.Money.{amount, isOrderFee, isAmount, groszeOf}
 use Rattle.money.specs.Text.{orderText, sumText}
+use Rattle.fee.specs.Fee.{feeOf}
+use Rattle.fee.specs.declared.Terms.{Terms}
 use Rattle.calendar.specs.Reading.{dateOfDigits, dateInWindow}
 use Rattle.calendar.specs.Time.{timeOfDay}
 use Rattle.calendar.specs.declared.date.Date.{Date}
 use Rattle.epe.specs.Questions.{Question, _elseNo_, firstNo}
-use Rattle.epe.specs.Profile.{profileFits}
+use Rattle.epe.specs.Profile.{kinds, profileQuestions, termsFor}
 use Rattle.epe.specs.File.{header, records, field}
 use Rattle.epe.specs.declared.profile.Profile.{Profile}
 use Rattle.epe.specs.declared.verdict.Verdict.{Verdict}
@@ -59,10 +61,16 @@ statedQuestions line =
     ∷ (ltb 0 (statedSum line) elseNo 131)
     ∷ []
 
--- The questions 905 and 102 to 131, in order. 905 is asked here too, so that every profile has an answer.
+-- The questions 905, 907 and 102 to 131 of a header, in order. The profile is asked about here too, so that every one has an answer.
 abbrev pub headerQuestions : Profile → List ℕ → List Question
-headerQuestions profile file =
-    (profileFits profile elseNo 905) ∷ (dateQuestions (profile .today) (header file) ++ statedQuestions (header file))
+headerQuestions profile line = profileQuestions profile ++ (dateQuestions (profile .today) line ++ statedQuestions line)
+
+-- What the profile sets for the kind that the header states in its field 10; for what is no digit, nothing.
+abbrev pub statedKind : List ℕ → ℕ
+statedKind line = cond (isNumber (number 1 1 (field 10 line))) (valueOf (number 1 1 (field 10 line))) kinds
+
+abbrev pub statedTerms : Profile → List ℕ → Terms
+statedTerms profile line = termsFor profile (statedKind line)
 
 -- One record line, the n-th: ".. R fields, no stray CR or LF, first field `2`, second 1 to 6 digits whose value counts 1, 2, 3 ..?"
 unfoldable pub shaped : ℕ → ℕ → List ℕ → Bool
@@ -87,9 +95,14 @@ unfoldable pub total : List (List ℕ) → ℕ
 total [] = 0
 total (line ∷ lines) = amountIn line + total lines
 
--- The records of R fields, beside the number of orders and the sum that the header states in its fields 11 and 12.
-unfoldable pub recordQuestions : ℕ → ℕ → ℕ → List (List ℕ) → List Question
-recordQuestions r count sum lines =
+-- Each order's fee on some terms, the faulty ones' too, is one that an order can hold.
+unfoldable pub allCharged : Terms → List (List ℕ) → Bool
+allCharged terms [] = true
+allCharged terms (line ∷ lines) = isOrderFee (feeOf terms (amountIn line)) && allCharged terms lines
+
+-- The records of R fields, beside the number of orders and the sum that the header states in its fields 11 and 12, and the terms of their fees.
+unfoldable pub recordQuestions : ℕ → ℕ → ℕ → Terms → List (List ℕ) → List Question
+recordQuestions r count sum terms lines =
     -- "Every record line has R fields, no stray CR or LF, first field `2`, second 1 to 6 digits whose value counts 1, 2, 3 ..? 901"
     (allShaped r 1 lines elseNo 901)
     -- "Every field 3 reads as an amount, above zero? 902"
@@ -98,13 +111,15 @@ recordQuestions r count sum lines =
     ∷ (eqb (length lines) count elseNo 129)
     -- "Amounts add up to field 12? 132"
     ∷ (eqb (total lines) sum elseNo 132)
+    -- "906 when an order's fee exceeds 999,999,999, asked after 132." (document 02, A5)
+    ∷ (allCharged terms lines elseNo 906)
     ∷ []
 
--- The questions 905 and 102 to 132, in order.
+-- The questions 905, 907 and 102 to 906, in order.
 unfoldable pub contentsQuestions : Profile → List ℕ → List Question
 contentsQuestions profile file =
-    headerQuestions profile file
-    ++ recordQuestions (profile .fields) (statedCount (header file)) (statedSum (header file)) (records file)
+    headerQuestions profile (header file)
+    ++ recordQuestions (profile .fields) (statedCount (header file)) (statedSum (header file)) (statedTerms profile (header file)) (records file)
 
 unfoldable pub contents : Profile → List ℕ → Verdict
 contents profile file = firstNo (contentsQuestions profile file)

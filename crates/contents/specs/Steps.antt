@@ -5,23 +5,29 @@ use mathlib.Core.List.{List}
 use Prim.Native.Nat.{ℕ}
 use lib.Dec.{leb}
 use lib.ListN.{replicate}
-use Rattle.epe.specs.Questions.{Question, firstNo}
+use Rattle.fee.specs.declared.Terms.{Terms}
+use Rattle.epe.specs.Questions.{firstNo}
 use Rattle.epe.specs.File.{header, records}
 use Rattle.epe.specs.declared.profile.Profile.{Profile}
 use Rattle.epe.specs.declared.verdict.Verdict.the-variants.{Passed, Refused}
-use Rattle.contents.specs.Contents.{statedCount, statedSum, headerQuestions, recordQuestions, contents, orders, ordersRead, judgedOf}
+use Rattle.contents.specs.Contents.{statedCount, statedSum, statedTerms, headerQuestions, recordQuestions, contents, orders, ordersRead, judgedOf}
 use Rattle.contents.specs.Kept.{keptFrom}
 use Rattle.contents.specs.declared.judge.Judged.{Judged}
 use Rattle.contents.specs.declared.judge.Judged.the-variants.{Accepted, Refused as NotAccepted}
 use Rattle.contents.specs.declared.stated.Stated.{Stated}
 
--- What some questions come to, beside the number of orders and the sum that a header states.
-unfoldable pub statedBeside : List Question → List ℕ → Stated
-statedBeside questions line = record { verdict = firstNo questions; count = statedCount line; sum = statedSum line }
+-- What the questions of a header come to, beside the number of orders, the sum and the terms that it states.
+unfoldable pub statedIn : Profile → List ℕ → Stated
+statedIn profile line = record {
+  verdict = firstNo (headerQuestions profile line);
+  count = statedCount line;
+  sum = statedSum line;
+  terms = statedTerms profile line;
+}
 
--- The first step: 905, then 102 to 131.
+-- The first step: 905 and 907, then 102 to 131.
 unfoldable pub statedOf : Profile → List ℕ → Stated
-statedOf profile file = statedBeside (headerQuestions profile file) (header file)
+statedOf profile file = statedIn profile (header file)
 
 -- A table in which no order is kept yet, with an entry for each of a book's 2,048 rows.
 abbrev pub noneKept : List ℕ
@@ -37,21 +43,21 @@ unfoldable pub keptWhere : Judged → List ℕ → List ℕ
 keptWhere (Accepted orders faulty) kept = kept
 keptWhere (NotAccepted n) kept = noneKept
 
--- The second step: 901, 902, 129, 132 of the records of R fields, and of a file that passes the orders, kept in a table that kept none.
+-- The second step: 901, 902, 129, 132, 906 of the records of R fields, and of a file that passes the orders, kept in a table that kept none.
 -- No profile asks for more than 32 fields; for more the answer is that no record is in shape.
-unfoldable pub judgedRecords : ℕ → ℕ → ℕ → List ℕ → Judged
-judgedRecords r count sum file =
-    cond (leb r 32) (judgedOf (firstNo (recordQuestions r count sum (records file))) (orders file)) (NotAccepted 901)
+unfoldable pub judgedRecords : ℕ → ℕ → ℕ → Terms → List ℕ → Judged
+judgedRecords r count sum terms file =
+    cond (leb r 32) (judgedOf (firstNo (recordQuestions r count sum terms (records file))) (orders file)) (NotAccepted 901)
 
-unfoldable pub recordsOf : ℕ → ℕ → ℕ → List ℕ → Records
-recordsOf r count sum file = record {
-  judged = judgedRecords r count sum file;
-  kept = keptWhere (judgedRecords r count sum file) (keptFrom noneKept 0 (ordersRead r file));
+unfoldable pub recordsOf : ℕ → ℕ → ℕ → Terms → List ℕ → Records
+recordsOf r count sum terms file = record {
+  judged = judgedRecords r count sum terms file;
+  kept = keptWhere (judgedRecords r count sum terms file) (keptFrom noneKept 0 (ordersRead r file));
 }
 
 -- The second step as it follows the first: of the profile's number of fields, and of what the header states.
 abbrev pub recordsBehind : Profile → List ℕ → Records
-recordsBehind profile file = recordsOf (profile .fields) (statedOf profile file .count) (statedOf profile file .sum) file
+recordsBehind profile file = recordsOf (profile .fields) (statedOf profile file .count) (statedOf profile file .sum) (statedOf profile file .terms) file
 
 -- The two steps are the contents, whatever the profile: where the first refuses, so are they refused; where it passes, they come to what the second
 -- comes to; and of a file that is accepted the orders are kept.

@@ -1,9 +1,11 @@
 // The records of a file judged beside what its header states.
 ghost use mathlib.Core.Path.{_≡_};
 ghost use lib.ListN.{length, replicate};
+ghost use Rattle.fee.specs.Fee.{TermsFit};
 ghost use Rattle.contents.specs.Steps.{noneKept, keptWhere, recordsOf};
 ghost use Rattle.contents.specs.Inner.Tally.{tallyJudged};
 use crate::refusals;
+use crate::stated::Stated;
 use crate::tally::Tally;
 use crate::tally::after_line;
 use crate::tally::tally_records;
@@ -16,18 +18,19 @@ pub enum Judged {
     Refused(u64),
 }
 
-// The questions 901, 902, 129 and 132 of records of so many fields, beside what the header states. The orders are kept in a table that keeps none yet,
-// as far as it goes; a refusal leaves it so.
-pub fn judge_records(fields: u64, count: u64, sum: u64, file: &[u8], kept: &mut [u64]) -> Judged
-    requires { ⌜ now kept ≡ noneKept ⌝ }
-    ensures { λ r. ⌜ record { judged = r; kept = now (kept .exit) } ≡ recordsOf fields count sum (now (file .entry)) ⌝ }
+// The questions 901, 902, 129, 132 and 906 of records of so many fields, beside what the header states. The orders are kept in a table that keeps none
+// yet, as far as it goes; a refusal leaves it so.
+pub fn judge_records(fields: u64, stated: Stated, file: &[u8], kept: &mut [u64]) -> Judged
+    requires { ⌜ (now kept ≡ noneKept) × TermsFit (stated .terms) ⌝ }
+    ensures { λ r. ⌜ record { judged = r; kept = now (kept .exit) } ≡ recordsOf fields (stated .count) (stated .sum) (stated .terms) (now (file .entry)) ⌝ }
 {
     if 32 < fields {
         return Judged::Refused(refusals::RECORD_SHAPE);
     }
     let s = body_of(file);
-    let tally = tally_records(s, after_line(s, line_end(s, 0)), fields, kept);
-    settle(judge_tally(tally, count, sum), kept)
+    let terms = stated.terms;
+    let tally = tally_records(s, after_line(s, line_end(s, 0)), fields, terms, kept);
+    settle(judge_tally(tally, stated.count, stated.sum), kept)
 }
 
 // What a tally comes to beside what the header states.
@@ -45,6 +48,9 @@ fn judge_tally(tally: Tally, count: u64, sum: u64) -> Judged
     }
     if tally.sum != sum {
         return Judged::Refused(refusals::RECORD_SUM);
+    }
+    if !tally.charged {
+        return Judged::Refused(refusals::RECORD_FEE);
     }
     Judged::Accepted(tally.count, tally.faulty)
 }

@@ -38,3 +38,6 @@ pub const RECORD_COUNT: u64 = 129;
 
 // Amounts add up to field 12?
 pub const RECORD_SUM: u64 = 132;
+
+// Every order's fee at most 999,999,999? (document 02, A5)
+pub const RECORD_FEE: u64 = 906;

@@ -1,4 +1,4 @@
-// What the header states: the questions 905 and 102 to 131, and the number of orders and the sum that it gives.
+// What the header states: the questions 905, 907 and 102 to 131, and the number of orders, the sum and the kind that it gives.
 ghost use mathlib.Core.Path.{_≡_};
 ghost use mathlib.Core.Bool.{_&&_};
 ghost use mathlib.Core.List.{_++_};
@@ -14,8 +14,8 @@ ghost use Rattle.calendar.specs.Time.{timeOfDay};
 ghost use Rattle.epe.specs.Questions.{firstNo};
 ghost use Rattle.epe.specs.File.{field};
 ghost use Rattle.epe.specs.Inner.Cut.{CutOf};
-ghost use Rattle.contents.specs.Contents.{dateQuestions, statedCount, statedSum, statedQuestions};
-ghost use Rattle.contents.specs.Steps.{statedBeside, statedOf};
+ghost use Rattle.contents.specs.Contents.{dateQuestions, statedCount, statedSum, statedQuestions, headerQuestions, statedKind};
+ghost use Rattle.contents.specs.Steps.{statedIn, statedOf};
 use crate::refusals;
 use calendar::date::Date;
 use calendar::date::read_digits;
@@ -24,11 +24,13 @@ use calendar::time::is_time;
 use epe::file::body_of;
 use epe::line::BAR;
 use epe::line::field_of;
+use epe::profile::KINDS;
 use epe::profile::Profile;
-use epe::profile::profile_fits;
-use epe::refusals::PROFILE;
+use epe::profile::judge_profile;
+use epe::profile::terms_of;
 use epe::verdict::Verdict;
 use epe::verdict::is_passed;
+use fee::Terms;
 use money::Amount;
 use money::grosze_of;
 use money::is_amount;
@@ -37,43 +39,50 @@ use text::bytes::first;
 use text::bytes::rest;
 use text::bytes::slice;
 use text::lines::line_end;
+use text::number::Number;
 use text::number::is_number;
 use text::number::value_of;
 
-// What the header states of the records, and what the questions before them come to.
+// What the header states of the records, and what the questions before them come to: how many orders, their sum, and the terms of their fees.
 pub struct Stated {
     pub verdict: Verdict,
     pub count: u64,
     pub sum: u64,
+    pub terms: Terms,
 }
 
-// What a profile and the header come to, the questions 905 and 102 to 131, and what the header states of the records.
+// What a profile and the header come to, the questions 905, 907 and 102 to 131, and what the header states of the records.
 pub fn judge_stated(profile: Profile, file: &[u8]) -> Stated
     ensures { λ r. ⌜ r ≡ statedOf profile (now (file .entry)) ⌝ }
 {
     let s = body_of(file);
-    let stated = read_stated(slice(s, 0, line_end(s, 0)), profile.today);
-    if !profile_fits(profile) {
-        return Stated {
-            verdict: Verdict::Refused(PROFILE),
-            count: stated.count,
-            sum: stated.sum,
-        };
-    }
-    stated
+    read_stated(slice(s, 0, line_end(s, 0)), profile)
 }
 
-// What the header's questions 102 to 131 come to, and what it states.
-fn read_stated(line: &[u8], today: Date) -> Stated
-    ensures { λ r. ⌜ r ≡ statedBeside (dateQuestions today (now (line .entry)) ++ statedQuestions (now (line .entry))) (now (line .entry)) ⌝ }
+// What a header's questions come to, and what it states.
+fn read_stated(line: &[u8], profile: Profile) -> Stated
+    ensures { λ r. ⌜ r ≡ statedIn profile (now (line .entry)) ⌝ }
 {
     let mut table = [0usize; 32];
     let count = text::fields::cut(line, BAR, &mut table);
     Stated {
-        verdict: judge_statement(line, &table, count, today),
+        verdict: judge_header(line, &table, count, profile),
         count: stated_count(line, &table, count),
         sum: stated_sum(line, &table, count),
+        terms: terms_of(profile, stated_kind(line, &table, count)),
     }
+}
+
+// The profile's questions, then the header's 102 to 131.
+fn judge_header(line: &[u8], table: &[usize], count: usize, profile: Profile) -> Verdict
+    requires { ⌜ CutOf (now line) (now table) count ⌝ }
+    ensures { λ r. ⌜ r ≡ firstNo (headerQuestions profile (now (line .entry))) ⌝ }
+{
+    let verdict = judge_profile(profile);
+    if !is_passed(verdict) {
+        return verdict;
+    }
+    judge_statement(line, table, count, profile.today)
 }
 
 // The header's questions 102 to 125, then 126 to 131.
@@ -220,4 +229,15 @@ fn stated_sum(line: &[u8], table: &[usize], count: usize) -> u64
     ensures { λ r. ⌜ r ≡ statedSum (now (line .entry)) ⌝ }
 {
     grosze_of(Amount::read_sum(field_of(line, table, count, 12)))
+}
+
+// The kind that the header states; what is no digit is none.
+fn stated_kind(line: &[u8], table: &[usize], count: usize) -> u64
+    requires { ⌜ CutOf (now line) (now table) count ⌝ }
+    ensures { λ r. ⌜ r ≡ statedKind (now (line .entry)) ⌝ }
+{
+    match text::number::read(field_of(line, table, count, 10), 1, 1) {
+        Number::Of(kind) => kind,
+        Number::Not => KINDS,
+    }
 }

@@ -4,33 +4,39 @@ ghost use mathlib.Core.Bool.{cond, _&&_};
 ghost use Prim.Native.Nat.{_+_, _≤_};
 ghost use lib.Dec.{eqb, ltb};
 ghost use lib.ListN.{length, set};
+ghost use Rattle.fee.specs.Fee.{TermsFit};
 ghost use Rattle.epe.specs.Inner.Walk.{linesFrom};
 ghost use Rattle.contents.specs.Kept.{Keepable, keptCode};
 ghost use Rattle.contents.specs.Inner.Tally.{added, SmallTally, Tallied};
 use crate::kept::FAULTS;
 use crate::record::Order;
 use crate::record::read_record;
+use fee::Terms;
+use fee::charge_on;
+use fee::is_charged;
 use text::bytes::slice;
 use text::lines::line_end;
 
-// What the record lines so far come to: whether all are shaped and priced, how many they are, their sum, and how many orders are faulty.
+// What the record lines so far come to: whether all are shaped, priced and charged a fee, how many they are, their sum, and how many orders are faulty.
 // Their sum is a plain number: 999,999 amounts can pass the cap of a sum, and only one that equals the header's is taken.
 pub struct Tally {
     pub shaped: bool,
     pub priced: bool,
+    pub charged: bool,
     pub count: u64,
     pub sum: u64,
     pub faulty: u64,
 }
 
 // The tally of the record lines from a place on, up to the first that is not shaped; their orders are kept as they are read.
-pub fn tally_records(s: &[u8], from: usize, fields: u64, kept: &mut [u64]) -> Tally
-    requires { ⌜ fields ≤ 32 ⌝ }
-    ensures { λ r. ⌜ Tallied fields (linesFrom from (now (s .entry))) r (now (kept .entry)) (now (kept .exit)) ⌝ }
+pub fn tally_records(s: &[u8], from: usize, fields: u64, terms: Terms, kept: &mut [u64]) -> Tally
+    requires { ⌜ (fields ≤ 32) × TermsFit terms ⌝ }
+    ensures { λ r. ⌜ Tallied fields terms (linesFrom from (now (s .entry))) r (now (kept .entry)) (now (kept .exit)) ⌝ }
 {
     let mut tally = Tally {
         shaped: true,
         priced: true,
+        charged: true,
         count: 0,
         sum: 0,
         faulty: 0,
@@ -44,6 +50,7 @@ pub fn tally_records(s: &[u8], from: usize, fields: u64, kept: &mut [u64]) -> Ta
             return Tally {
                 shaped: false,
                 priced: false,
+                charged: false,
                 count: 0,
                 sum: 0,
                 faulty: 0,
@@ -51,7 +58,7 @@ pub fn tally_records(s: &[u8], from: usize, fields: u64, kept: &mut [u64]) -> Ta
         }
         let order = read.order;
         keep(kept, tally.count, order);
-        tally = with_order(tally, order);
+        tally = with_order(terms, tally, order);
         at = after_line(s, end);
     }
     tally
@@ -68,15 +75,17 @@ fn keep(kept: &mut [u64], j: u64, order: Order)
     kept[j as usize] = order.amount.0 * FAULTS + order.fault;
 }
 
-// The tally with one order more.
-fn with_order(tally: Tally, order: Order) -> Tally
-    requires { ⌜ SmallTally tally order ⌝ }
-    ensures { λ r. ⌜ r ≡ added tally order ⌝ }
+// The tally with one order more, on the terms of its fee.
+fn with_order(terms: Terms, tally: Tally, order: Order) -> Tally
+    requires { ⌜ SmallTally tally order × TermsFit terms ⌝ }
+    ensures { λ r. ⌜ r ≡ added terms tally order ⌝ }
 {
     let grosze = order.amount.0;
+    let charged = is_charged(charge_on(terms, order.amount));
     Tally {
         shaped: tally.shaped,
         priced: both(tally.priced, 0 < grosze),
+        charged: both(tally.charged, charged),
         count: tally.count + 1,
         sum: tally.sum + grosze,
         faulty: tally.faulty + faulty_mark(order.fault),

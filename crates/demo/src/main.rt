@@ -9,6 +9,7 @@ use acts::answer::Returning;
 use calendar::date::Date;
 use epe::ident::Ident;
 use epe::profile::Profile;
+use fee::Rate;
 use libc::STDOUT_FILENO;
 use memory::SIZE;
 use model::Route;
@@ -166,10 +167,12 @@ fn run_orders(memory: &mut [u8], ident: Ident) {
 // Runs ZS1 in the memory, from an empty book and the intake of its file on.
 fn run(memory: &mut [u8], name: &[u8], file: &[u8]) {
     let fee = Fee::order(350);
+    let rate = Rate(0);
     let profile = Profile {
         today: Date(20201007),
-        fees: [fee, fee, fee, fee, fee],
+        flat: [fee, fee, fee, fee, fee],
         fields: 19,
+        rates: [rate, rate, rate, rate, rate],
     };
     say_completion(b"0. empty book", book::make_empty(memory));
     say_acceptance(b"0. intake", book::intake(memory, profile, name, file));

@@ -12,10 +12,13 @@ use Rattle.text.specs.Number.{number, numberAfter, isNumber, valueOf}
 use Rattle.text.specs.Fields.{fields, onto}
 use Rattle.money.specs.declared.Money.{Money}
 use Rattle.money.specs.declared.Money.the-variants.{K, O}
+use Rattle.money.specs.Money.{fee}
+use Rattle.fee.specs.Fee.{rate}
+use Rattle.fee.specs.declared.Terms.{Terms}
 use Rattle.calendar.specs.Calendar.{real, leap, monthLength}
 use Rattle.epe.specs.Questions.{firstNo, isPassed, asked}
 use Rattle.epe.specs.Ident.{identifier, identOf, sameIdent, identInForm}
-use Rattle.epe.specs.Profile.{asFees, feesFit, profileFits}
+use Rattle.epe.specs.Profile.{each, asFees, profileFits, ratesFit, termsFor}
 use Rattle.epe.specs.Name.{nameQuestions, nameOf, hasLongDate, shortTitle, titleQuestions, titleOf, longTitle}
 use Rattle.epe.specs.declared.profile.Profile.{Profile}
 use Rattle.epe.specs.declared.verdict.Verdict.{Verdict}
@@ -140,12 +143,20 @@ shortened : shortTitle (bytes "EPEZZS1-20201007-A-0-K") ≡ bytes "EPEZZS1-20100
 unfolding shortTitle hasLongDate same fields onto
 shortened = refl
 
--- Profiles by today, a fee and R: the last ones within the ranges, and each past one of them.
+-- Profiles by today, a flat part and R: the last ones within the ranges, and each past one of them.
+abbrev rated : ℕ → ℕ → ℕ → ℕ → Profile
+rated today flat r last = record {
+  today = record { 0 = today };
+  flat = asFees (350 ∷ 0 ∷ 350 ∷ 350 ∷ flat ∷ []);
+  fields = r;
+  rates = map rate (0 ∷ 10_000 ∷ 125 ∷ 0 ∷ last ∷ []);
+}
+
 abbrev profile : ℕ → ℕ → ℕ → Profile
-profile today fee r = record { today = record { 0 = today }; fees = asFees (350 ∷ 0 ∷ 350 ∷ 350 ∷ fee ∷ []); fields = r }
+profile today flat r = rated today flat r 0
 
 isFitting : Profile → Bool
-unfolding profileFits feesFit asFees real leap monthLength
+unfolding profileFits each asFees real leap monthLength
 isFitting p = profileFits p
 
 profiles : map isFitting (profile 20201007 999999999 19 ∷ profile 20991231 0 32 ∷ []) ≡ true ∷ true ∷ []
@@ -157,3 +168,15 @@ profiles-refused : map isFitting
     ≡ false ∷ false ∷ false ∷ false ∷ false ∷ []
 unfolding isFitting
 profiles-refused = refl
+
+-- A rate at its cap and above it, of a kind that no file need have; and what is set for a kind, and for what is none.
+rates : map (λ (last : ℕ). ratesFit (rated 20201007 350 19 last .rates)) (10_000 ∷ 10_001 ∷ []) ≡ true ∷ false ∷ []
+unfolding ratesFit each
+rates = refl
+
+abbrev terms : ℕ → ℕ → Terms
+terms flat percent = record { flat = fee flat; rate = rate percent }
+
+set-for-kinds : map (termsFor (rated 20201007 350 19 77)) (1 ∷ 4 ∷ 5 ∷ []) ≡ terms 0 10_000 ∷ terms 350 77 ∷ terms 0 0 ∷ []
+unfolding termsFor asFees
+set-for-kinds = refl

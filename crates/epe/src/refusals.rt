@@ -3,6 +3,9 @@
 // Profile within the ranges above?
 pub const PROFILE: u64 = 905;
 
+// Each of the profile's rates at most 10,000? (document 02, A5)
+pub const RATES: u64 = 907;
+
 // Name has exactly three hyphens?
 pub const NAME_HYPHENS: u64 = 3;
 

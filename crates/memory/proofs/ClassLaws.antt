@@ -1,42 +1,37 @@
--- What soundness asks of a state, by the table of all bytes.
+-- What soundness asks of a state, by its byte alone, computed at each of the 256.
 -- Assumes nothing.
-use mathlib.Core.Path.{_≡_, ap, _∙_}
-use mathlib.Core.List.{List}
-use Prim.Native.Nat.{ℕ, zero, suc, _+_, _-_, _<_, _≤_}
-use native.Mathlib.Numerals.{add-one}
+use mathlib.Core.Path.{_≡_, refl}
+use mathlib.Core.Bool.{Bool, true, false, not, _&&_, _||_}
+use mir.Val.{boolByte}
+use Prim.Native.Nat.{ℕ, _+_, _*_, _%_, _≤_, _<_}
 use native.Mathlib.Omega.{arith}
-use lib.ListN.{length, getD, set}
+use borrow.Author.Tests.{eqb-true}
+use lib.Dec.{eqb, leb, ltb}
+use Rattle.calendar.proofs.Computed.{each}
 use Rattle.memory.specs.States.{lastCode, stateOf}
-use Rattle.memory.specs.Inner.Table.{listed}
-use Rattle.memory.specs.Inner.Classes.{classOf, classTable}
+use Rattle.memory.specs.Inner.Classes.{classOf}
 
--- the table of classes, at each byte
-listed-from : (f : ℕ → ℕ) (from n k : ℕ) → k < n → getD (listed f from n) k 0 ≡ f (from + k)
-listed-from f from zero k h = absurd (omega arith)
-listed-from f from (suc n) zero h = ap f (omega arith)
-listed-from f from (suc n) (suc k) h = listed-from f (suc from) n k (omega arith) ∙ ap f (omega arith)
+-- a flag is 0 or 1
+pub flag-low : (t : Bool) → boolByte t ≤ 1
+flag-low true = omega arith
+flag-low false = omega arith
 
-listed-there : (f : ℕ → ℕ) (n k : ℕ) → k < n → getD (listed f 0 n) k 0 ≡ f k
-listed-there f n k h = listed-from f 0 n k h ∙ ap f (omega arith)
+-- the three questions, as code asks them
+abbrev pub saysNone : ℕ → Bool
+saysNone code = ltb lastCode code || (eqb code 3 || (eqb code 6 || eqb code 7))
 
-module _ (table : List ℕ) (table-is : table ≡ classTable) where
-  pub table-long : length table ≡ 256
-  unfolding classTable
-  table-long = ap length table-is
+abbrev pub saysFault : ℕ → Bool
+saysFault code = saysNone code || leb 12 code
 
-  pub class-there : (code : ℕ) → code < 256 → getD table code 0 ≡ classOf (stateOf code)
-  unfolding classTable
-  class-there code byte = ap (λ t. getD t code 0) table-is ∙ listed-there (λ c. classOf (stateOf c)) 256 code byte
+abbrev pub saysEarly : ℕ → Bool
+saysEarly code = eqb code 0 || (leb 12 code && (leb code lastCode && eqb (code % 4) 3))
 
--- as code makes it: the entries of the bytes that may say a state are copied
-abbrev pub copied : List ℕ → ℕ → ℕ → List ℕ → List ℕ
-copied classes code zero table = table
-copied classes code (suc n) table = copied classes (suc code) n (set table code (getD classes code 0))
+abbrev pub classBy : ℕ → ℕ
+classBy code = boolByte (saysFault code) + (2 * boolByte (not (saysEarly code)) + 4 * boolByte (saysNone code))
 
-module _ (classes table : List ℕ) (code : ℕ) where
-  pub copied-on : code < lastCode + 1
-      → copied classes (code + 1) (lastCode + 1 - (code + 1)) (set table code (getD classes code 0)) ≡ copied classes code (lastCode + 1 - code) table
-  copied-on more = let left : lastCode + 1 - code ≡ suc (lastCode + 1 - (code + 1)) = omega arith in rw (left, add-one code)
+class-right : ℕ → Bool
+class-right code = eqb (classBy code) (classOf (stateOf code))
 
-  pub copied-all : lastCode + 1 ≤ code → table ≡ copied classes code (lastCode + 1 - code) table
-  copied-all done = let left : lastCode + 1 - code ≡ 0 = omega arith in rw left
+pub class-by-code : (code : ℕ) → code < 256 → classBy code ≡ classOf (stateOf code)
+unfolding class-right stateOf
+class-by-code code byte = eqb-true (classBy code) (classOf (stateOf code)) (each class-right 256 refl code byte)

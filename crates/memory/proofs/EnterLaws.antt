@@ -3,6 +3,7 @@
 use mathlib.Core.Path.{_≡_, refl, ap, _∙_}
 use mathlib.Core.Bool.{true, _&&_}
 use mathlib.Core.List.{List, [], _++_, append-nil}
+use mathlib.Core.Logic.{_⊎_, inl, inr, ⊎-elim}
 use Prim.Native.Nat.{ℕ, zero, suc, _+_, _^_, _<_, _≤_}
 use native.Mathlib.Nat.{add-zero, zero-add}
 use native.Mathlib.Numerals.{add-one}
@@ -11,6 +12,9 @@ use borrow.Author.Tests.{eqb-false, leb-true, le-leb}
 use lib.Dec.{eqb, leb}
 use lib.ListN.{length, getD, set, take, drop}
 use lib.Seq.{drop-length, take-at, take-all, getD-append-add, paste-suc}
+use Rattle.money.specs.Money.{amount, fee}
+use Rattle.fee.specs.Fee.{TermsFit, remainderOf, feeOf}
+use Rattle.fee.specs.declared.Terms.{Terms}
 use Rattle.text.proofs.Branches.{both-yes, cond-either}
 use Rattle.calendar.proofs.Parts.{parts-of}
 use Rattle.epe.specs.Ident.{identInForm}
@@ -18,56 +22,86 @@ use Rattle.epe.specs.Name.{nameInForm}
 use Rattle.epe.specs.declared.name.Name.{Name}
 use Rattle.contents.specs.declared.record.Order.{Order}
 use Rattle.model.specs.Shipment.{mostShipments, mostRows}
-use Rattle.model.specs.Book.{enteredRow, newShipment}
+use Rattle.model.specs.Calls.{withState}
+use Rattle.model.specs.Book.{enteredState, newShipment}
 use Rattle.model.specs.Sound.{faultInRange}
 use Rattle.model.specs.declared.Row.{Row}
 use Rattle.model.specs.declared.State.{State}
 use Rattle.model.specs.declared.State.the-variants.{Open, Faulty}
 use Rattle.model.proofs.SoundParts.{halves}
 use Rattle.memory.specs.Number.{numberAt, withNumber}
-use Rattle.memory.specs.Layout.{headSize, rowSize, headAt, rowAt, size, headBytes, rowBytes, IsHead, OnlyHead}
-use Rattle.memory.specs.States.{lastFault}
-use Rattle.memory.specs.Rows.{rowOf}
-use Rattle.memory.specs.Heads.{feeIn, stageOf, flagsInForm, orderCountIn, shipmentIn}
+use Rattle.memory.specs.Layout.{headSize, headAt, amountAt, feeAt, remainderAt, codeAt, size, headBytes, IsHead, OnlyHead}
+use Rattle.memory.specs.States.{lastFault, stateOf}
+use Rattle.memory.specs.Heads.{stageOf, flagsInForm, orderCountIn, shipmentIn}
 use Rattle.memory.specs.Inner.Stored.{codeOf, withCodeAt}
-use Rattle.memory.specs.Inner.Enter.{OrderEntered, HeadEntered, fieldsOf, HeadStored}
-use Rattle.memory.proofs.Numbers.{stored-is-read}
-use Rattle.memory.proofs.Parts.{part-long, head-byte, head-byte-only, row-number, row-number-only}
+use Rattle.memory.specs.Inner.Enter.{Enterable, OrderEntered, HeadEntered, fieldsOf, HeadStored}
+use Rattle.memory.proofs.Numbers.{number-alike, stored-is-read}
+use Rattle.memory.proofs.Parts.{part-long, head-byte, head-byte-only, amount-cell, fee-cell, remainder-cell, cell-number-only}
 use Rattle.memory.proofs.Frames.{only-none, only-again}
 use Rattle.memory.proofs.StateLaws.{state-is-read-back}
-use Rattle.memory.proofs.RowLaws.{code-stored}
+use Rattle.memory.proofs.RowLaws.{row-by, code-stored}
 
 -- the state of an order as it is entered
-entered-in-range : (order : Order) → order .fault ≤ lastFault → faultInRange (enteredRow order .state) ≡ true
+entered-in-range : (order : Order) → order .fault ≤ lastFault → faultInRange (enteredState order) ≡ true
 entered-in-range order known =
     let fault = order .fault in
     cond-either (λ (state : State). faultInRange state ≡ true) (eqb fault 0) Open (Faulty fault true true) (λ none. refl)
     (λ some. both-yes (leb 1 fault) (leb fault lastFault) (le-leb 1 fault (omega (arith, eqb-false fault 0 some))) (le-leb fault lastFault known))
 
--- its row: the amount, then the state
-module _ (order : Order) (k : ℕ) (m : List ℕ) (there : k < mostRows) (enough : size ≤ length m) where
-  abbrev amount-stored : List ℕ
-  amount-stored = withNumber 4 m (rowAt k) (order .amount .0)
+-- a number is as it was once another was stored elsewhere
+number-kept : (width : ℕ) (m : List ℕ) (at n w p : ℕ) → (p + w ≤ at) ⊎ (at + width ≤ p) → numberAt w (withNumber width m at n) p ≡ numberAt w m p
+number-kept width m at n w p apart =
+    let stored = stored-is-read width m at n in
+    number-alike w (withNumber width m at n) m p p (λ j within.
+    ⊎-elim (λ before. stored .before (p + j) (omega arith)) (λ behind. stored .behind (p + j) (omega arith)) apart)
 
-  amount-there : order .amount .0 < 2 ^ 32 → numberAt 4 (rowBytes amount-stored k) 0 ≡ order .amount .0
-  unfolding rowBytes
-  amount-there fits =
-      ap (λ row. numberAt 4 row 0) (rw (add-zero (rowAt k)) at (row-number 4 m k 0 (order .amount .0) (omega arith)))
-      ∙ stored-is-read 4 (rowBytes m k) 0 (order .amount .0) .back (omega (arith, part-long m (rowAt k) rowSize (omega arith))) fits
+-- its row: the amount, the fee, the remainder, then the state
+module _ (terms : Terms) (order : Order) (k : ℕ) (m : List ℕ) (there : k < mostRows) (enough : size ≤ length m) where
+  abbrev grosze : ℕ
+  grosze = order .amount .0
 
-  pub order-entered : order .amount .0 < 2 ^ 32 → order .fault ≤ lastFault
-      → OrderEntered order k m (withCodeAt amount-stored k (codeOf (enteredRow order .state)))
-  unfolding rowOf
-  order-entered fits known =
-      let state = enteredRow order .state in
-      let long : length amount-stored ≡ length m = stored-is-read 4 m (rowAt k) (order .amount .0) .as-long in
-      let code = code-stored amount-stored k (codeOf state) in
-      let read = state-is-read-back state (entered-in-range order known) in
+  abbrev with-amount : List ℕ
+  with-amount = withNumber 4 m (amountAt k) grosze
+
+  abbrev with-fee : List ℕ
+  with-fee = withNumber 4 with-amount (feeAt k) (feeOf terms grosze)
+
+  abbrev with-remainder : List ℕ
+  with-remainder = withNumber 2 with-fee (remainderAt k) (remainderOf terms grosze)
+
+  pub order-entered : Enterable terms order → OrderEntered terms order k m (withCodeAt with-remainder k (codeOf (enteredState order)))
+  order-entered fits =
+      let first = stored-is-read 4 m (amountAt k) grosze in
+      let second = stored-is-read 4 with-amount (feeAt k) (feeOf terms grosze) in
+      let third = stored-is-read 2 with-fee (remainderAt k) (remainderOf terms grosze) in
+      let code = code-stored with-remainder k (codeOf (enteredState order)) in
+      let long : size ≤ length with-remainder = omega (arith, first .as-long, second .as-long, third .as-long) in
+      let amount-there =
+      number-kept 2 with-fee (remainderAt k) _ 4 (amountAt k) (inl (omega arith))
+      ∙ number-kept 4 with-amount (feeAt k) _ 4 (amountAt k) (inl (omega arith))
+      ∙ first .back (omega arith) (omega (arith, fits .amount-fits)) in
+      let fee-there =
+      number-kept 2 with-fee (remainderAt k) _ 4 (feeAt k) (inl (omega arith))
+      ∙ second .back (omega (arith, first .as-long)) (omega (arith, fits .fee-fits)) in
+      let remainder-there = third .back (omega (arith, first .as-long, second .as-long)) (omega arith) in
+      let before = row-by with-remainder k there long (record {
+        amount = amount grosze;
+        fee = fee (feeOf terms grosze);
+        remainder = remainderOf terms grosze;
+        state = stateOf (getD with-remainder (codeAt k) 0);
+      }) amount-there fee-there remainder-there refl in
+      let read = state-is-read-back (enteredState order) (entered-in-range order (fits .fault-known)) in
       record {
-        row = code .row there (omega arith) ∙ (λ i. record { amount = record { 0 = amount-there fits i }; state = read i });
+        row = code .row there long ∙ ap (withState (stateOf (codeOf (enteredState order)))) before ∙ (λ i. record {
+          amount = amount grosze;
+          fee = fee (feeOf terms grosze);
+          remainder = remainderOf terms grosze;
+          state = read i;
+        });
         only =
-            only-again (rw (add-zero (rowAt k)) at (row-number-only 4 m k 0 (order .amount .0) (omega arith) there))
-            (code .only there);
+            only-again (cell-number-only 4 m k (amountAt k) _ (λ q h. amount-cell k q there h))
+            (only-again (cell-number-only 4 with-amount k (feeAt k) _ (λ q h. fee-cell k q there h))
+            (only-again (cell-number-only 2 with-fee k (remainderAt k) _ (λ q h. remainder-cell k q there h)) (code .only there)));
       }
 
 -- bytes copied one by one: j of them, and the rest as it was
@@ -126,30 +160,31 @@ name-fits name h = record {
 }
 
 -- a head as it is entered, read back
-module _ (name : Name) (fee n : ℕ) (long : length (name .ident .bytes) ≡ 17) where
+module _ (name : Name) (terms : Terms) (n : ℕ) (long : length (name .ident .bytes) ≡ 17) where
   abbrev head : List ℕ
-  head = name .ident .bytes ++ fieldsOf name fee n
+  head = name .ident .bytes ++ fieldsOf name terms n
 
-  byte-there : (q : ℕ) → getD head (17 + q) 0 ≡ getD (fieldsOf name fee n) q 0
-  byte-there q = rw long at (getD-append-add (name .ident .bytes) (fieldsOf name fee n) q 0)
+  byte-there : (q : ℕ) → getD head (17 + q) 0 ≡ getD (fieldsOf name terms n) q 0
+  byte-there q = rw long at (getD-append-add (name .ident .bytes) (fieldsOf name terms n) q 0)
 
-  number-there : (width q : ℕ) → numberAt width head (17 + q) ≡ numberAt width (fieldsOf name fee n) q
-  number-there width q = rw long at (number-behind width (name .ident .bytes) (fieldsOf name fee n) q)
+  number-there : (width q : ℕ) → numberAt width head (17 + q) ≡ numberAt width (fieldsOf name terms n) q
+  number-there width q = rw long at (number-behind width (name .ident .bytes) (fieldsOf name terms n) q)
 
-  shipment-there : Fits name → fee < 2 ^ 32 → (rows : List Row) → shipmentIn head rows ≡ newShipment name fee rows
+  shipment-there : Fits name → TermsFit terms → (rows : List Row) → shipmentIn head rows ≡ newShipment name terms rows
   unfolding shipmentIn numberAt stageOf fieldsOf
-  shipment-there fits fee-fits rows =
+  shipment-there fits terms-fit rows =
       let date : numberAt 4 head 18 ≡ name .date .0 = number-there 4 1 ∙ omega (arith, fits .date) in
-      let fee-there : feeIn head ≡ fee = number-there 4 7 ∙ omega arith in
+      let flat-there : numberAt 4 head 24 ≡ terms .flat .0 = number-there 4 7 ∙ omega (arith, terms-fit .0) in
+      let rate-there : numberAt 2 head 64 ≡ terms .rate .0 = number-there 2 47 ∙ omega (arith, terms-fit .1) in
       λ i. record {
         agreed = record {
           name = record {
-            ident = record { bytes = take-at (name .ident .bytes) (fieldsOf name fee n) 17 long i; len = byte-there 0 i };
+            ident = record { bytes = take-at (name .ident .bytes) (fieldsOf name terms n) 17 long i; len = byte-there 0 i };
             date = record { 0 = date i };
             payment = byte-there 5 i;
             kind = byte-there 6 i;
           };
-          fee = fee-there i;
+          terms = record { flat = record { 0 = flat-there i }; rate = record { 0 = rate-there i } };
         };
         stage = stageOf (byte-there 11 i);
         goAhead = eqb (byte-there 12 i) 1;
@@ -158,13 +193,13 @@ module _ (name : Name) (fee n : ℕ) (long : length (name .ident .bytes) ≡ 17)
         rows = rows;
       }
 
-  pub head-entered : (i : ℕ) (m m′ : List ℕ) → nameInForm name ≡ true → fee < 2 ^ 32 → n < 2 ^ 16 → HeadStored head i m m′
-      → HeadEntered name fee n i m m′
+  pub head-entered : (i : ℕ) (m m′ : List ℕ) → nameInForm name ≡ true → TermsFit terms → n < 2 ^ 16 → HeadStored head i m m′
+      → HeadEntered name terms n i m m′
   unfolding numberAt fieldsOf
-  head-entered i m m′ in-form fee-fits n-fits stored =
+  head-entered i m m′ in-form terms-fit n-fits stored =
       let orders : orderCountIn head ≡ n = number-there 2 13 ∙ omega arith in
       record {
-        shipment = λ rows. ap (λ bytes. shipmentIn bytes rows) (stored .bytes) ∙ shipment-there (name-fits name in-form) fee-fits rows;
+        shipment = λ rows. ap (λ bytes. shipmentIn bytes rows) (stored .bytes) ∙ shipment-there (name-fits name in-form) terms-fit rows;
         orders = ap orderCountIn (stored .bytes) ∙ orders;
         flags = ap flagsInForm (stored .bytes) ∙ (λ j. leb (byte-there 11 j) 2 && leb (byte-there 12 j) 1);
         only = stored .only;

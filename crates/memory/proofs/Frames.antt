@@ -5,14 +5,14 @@ use mathlib.Core.List.{List}
 use mathlib.Core.Logic.{_⊎_, inl, inr, ⊎-elim}
 use Prim.Native.Nat.{ℕ, _+_, _≤_, _<_}
 use native.Mathlib.Omega.{arith}
-use Rattle.model.specs.Shipment.{mostShipments}
+use Rattle.model.specs.Shipment.{mostShipments, mostRows}
 use Rattle.memory.specs.Layout.{headBytes, rowBytes, Only, OnlyRow, OnlyRows}
 
 pub only-none : {heads rows : ℕ → Type 0} {m : List ℕ} → Only heads rows m m
 only-none = record {
   shipments = refl;
   other-heads = λ i few apart. refl;
-  other-rows = λ k apart. refl;
+  other-rows = λ k there apart. refl;
   behind = λ j far. refl;
   as-long = refl;
 }
@@ -22,7 +22,7 @@ pub only-then : {heads heads′ rows rows′ : ℕ → Type 0} {l m n : List ℕ
 only-then first then = record {
   shipments = then .shipments ∙ first .shipments;
   other-heads = λ i few apart. then .other-heads i few (λ here. apart (inr here)) ∙ first .other-heads i few (λ here. apart (inl here));
-  other-rows = λ k apart. then .other-rows k (λ here. apart (inr here)) ∙ first .other-rows k (λ here. apart (inl here));
+  other-rows = λ k there apart. then .other-rows k there (λ here. apart (inr here)) ∙ first .other-rows k there (λ here. apart (inl here));
   behind = λ j far. then .behind j far ∙ first .behind j far;
   as-long = then .as-long ∙ first .as-long;
 }
@@ -32,7 +32,7 @@ pub only-wider : {heads heads′ rows rows′ : ℕ → Type 0} {m m′ : List �
 only-wider more-heads more-rows only = record {
   shipments = only .shipments;
   other-heads = λ i few apart. only .other-heads i few (λ here. apart (more-heads i here));
-  other-rows = λ k apart. only .other-rows k (λ here. apart (more-rows k here));
+  other-rows = λ k there apart. only .other-rows k there (λ here. apart (more-rows k here));
   behind = only .behind;
   as-long = only .as-long;
 }
@@ -45,8 +45,8 @@ only-again first then = only-wider (λ i. ⊎-elim (λ here. here) (λ here. her
 pub heads-kept : {rows : ℕ → Type 0} {m m′ : List ℕ} → Only (λ i. ⊥) rows m m′ → (i : ℕ) → i < mostShipments → headBytes m′ i ≡ headBytes m i
 heads-kept only i few = only .other-heads i few (λ none. none)
 
-pub rows-kept : {heads : ℕ → Type 0} {m m′ : List ℕ} → Only heads (λ k. ⊥) m m′ → (k : ℕ) → rowBytes m′ k ≡ rowBytes m k
-rows-kept only k = only .other-rows k (λ none. none)
+pub rows-kept : {heads : ℕ → Type 0} {m m′ : List ℕ} → Only heads (λ k. ⊥) m m′ → (k : ℕ) → k < mostRows → rowBytes m′ k ≡ rowBytes m k
+rows-kept only k there = only .other-rows k there (λ none. none)
 
 -- and so it lies in a frame with any heads, or any rows
 pub with-heads : {heads rows : ℕ → Type 0} {m m′ : List ℕ} → Only (λ i. ⊥) rows m m′ → Only heads rows m m′

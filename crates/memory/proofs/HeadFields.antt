@@ -3,7 +3,6 @@
 use mathlib.Core.Path.{_≡_, refl, ap, _∙_}
 use mathlib.Core.List.{List}
 use Prim.Native.Nat.{ℕ, _*_, _^_, _≤_, _<_}
-use native.Mathlib.Nat.{mul-le-mul-right}
 use native.Mathlib.Omega.{arith}
 use Rattle.money.specs.Money.{WithinSum}
 use Rattle.money.specs.declared.Money.{Money}
@@ -11,7 +10,7 @@ use Rattle.money.specs.declared.Money.the-variants.{K, O}
 use Rattle.model.specs.Shipment.{mostRows, Shipment, accepted, returned, isWaiting, isPaired}
 use Rattle.model.proofs.SoundParts.{in-order}
 use Rattle.memory.specs.Layout.{headBytes}
-use Rattle.memory.specs.Heads.{feeIn, stageIn, goAheadIn, orderCountIn, transfersIn, surplusIn, shipmentIn}
+use Rattle.memory.specs.Heads.{termsIn, stageIn, goAheadIn, orderCountIn, transfersIn, surplusIn, shipmentIn}
 use Rattle.memory.specs.Read.{ordersAt, shipmentAt, Sits}
 
 accepted-in : (m : List ℕ) (i k : ℕ) (money : Money) → transfersIn money (headBytes m i) ≡ accepted money (shipmentAt m i k)
@@ -31,9 +30,9 @@ module _ (m : List ℕ) (i k : ℕ) {head : List ℕ} (is-head : head ≡ headBy
   pub orders-are : orderCountIn head ≡ ordersAt m i
   orders-are = ap orderCountIn is-head
 
-  pub fee-is : feeIn head ≡ s .agreed .fee
+  pub terms-are : termsIn head ≡ s .agreed .terms
   unfolding shipmentIn
-  fee-is = ap feeIn is-head
+  terms-are = ap termsIn is-head
 
   pub waiting-is : isWaiting (stageIn head) ≡ isWaiting (s .stage)
   unfolding shipmentIn
@@ -60,7 +59,3 @@ module _ (m : List ℕ) (i k : ℕ) {head : List ℕ} (is-head : head ≡ headBy
 
     pub returned-within : WithinSum (surplusIn money head)
     returned-within = omega (arith, returned-is money, in-order s (sits .sound) .moneys money .returned-fits)
-
--- so many fees of four bytes each are a sum
-pub fees-most : (n fee : ℕ) → n ≤ mostRows → fee < 2 ^ 32 → WithinSum (n * fee)
-fees-most n fee few small = omega (arith, mul-le-mul-right fee few)

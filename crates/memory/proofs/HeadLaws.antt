@@ -21,27 +21,20 @@ use Rattle.memory.specs.Number.{numberAt, withNumber}
 use Rattle.memory.specs.Layout.{headSize, IsHead}
 use Rattle.memory.specs.Heads.{nameIn, agreedIn, stageOf, stageAt, stageIn, goAheadAt, goAheadIn, flagsInForm, orderCountIn, acceptedAt, returnedAt, sumsIn, shipmentIn}
 use Rattle.memory.specs.Inner.Stored.{stageByte, FieldStored}
-use Rattle.memory.proofs.Numbers.{stored-is-read}
+use Rattle.memory.proofs.Numbers.{number-alike, stored-is-read}
 
--- Two heads that are the same outside the bytes from one place up to another, which lie behind the name and the fee.
+-- Two heads that are the same outside the bytes from one place up to another, which lie behind the name.
 record Elsewhere (from to : ℕ) (head head′ : List ℕ) : Type 0 where
   ident : take 17 head′ ≡ take 17 head
   before : (j : ℕ) → j < from → getD head′ j 0 ≡ getD head j 0
   behind : (j : ℕ) → to ≤ j → getD head′ j 0 ≡ getD head j 0
 
-number-alike : (width : ℕ) (head head′ : List ℕ) (at : ℕ) → ((j : ℕ) → at ≤ j → j < at + width → getD head′ j 0 ≡ getD head j 0)
-    → numberAt width head′ at ≡ numberAt width head at
-unfolding numberAt
-number-alike zero head head′ at same = refl
-number-alike (suc width) head head′ at same =
-    omega (arith, same at (omega arith) (omega arith), number-alike width head head′ (suc at) (λ j low high. same j (omega arith) (omega arith)))
-
 module _ (from to : ℕ) (head head′ : List ℕ) (e : Elsewhere from to head head′) where
   number-before : (width at : ℕ) → at + width ≤ from → numberAt width head′ at ≡ numberAt width head at
-  number-before width at h = number-alike width head head′ at (λ j low high. e .before j (omega arith))
+  number-before width at h = number-alike width head′ head at at (λ j within. e .before (at + j) (omega arith))
 
   number-behind : (width at : ℕ) → to ≤ at → numberAt width head′ at ≡ numberAt width head at
-  number-behind width at h = number-alike width head head′ at (λ j low high. e .behind j (omega arith))
+  number-behind width at h = number-alike width head′ head at at (λ j within. e .behind (at + j) (omega arith))
 
   same-name : 24 ≤ from → nameIn head′ ≡ nameIn head
   same-name h = λ i. record {
@@ -51,8 +44,11 @@ module _ (from to : ℕ) (head head′ : List ℕ) (e : Elsewhere from to head h
     kind = e .before 23 (omega arith) i;
   }
 
-  same-agreed : 28 ≤ from → agreedIn head′ ≡ agreedIn head
-  same-agreed h = λ i. record { name = same-name (omega arith) i; fee = number-before 4 24 (omega arith) i }
+  same-agreed : 28 ≤ from → to ≤ 64 → agreedIn head′ ≡ agreedIn head
+  same-agreed h k = λ i. record {
+    name = same-name (omega arith) i;
+    terms = record { flat = record { 0 = number-before 4 24 (omega arith) i }; rate = record { 0 = number-behind 2 64 (omega arith) i } };
+  }
 
   -- the sums of either money, where both lie behind
   same-sums : (at : Money → ℕ) → to ≤ at K → to ≤ at O → sumsIn at head′ ≡ sumsIn at head
@@ -143,7 +139,7 @@ module _ (head : List ℕ) (rows : List Row) (whole : IsHead head) where
       let there : getD head′ stageAt 0 ≡ stageByte stage = getD-set-same head stageAt (stageByte stage) 0 (omega arith) in
       let staged = ap stageOf there ∙ stage-back stage in
       λ i. record {
-        agreed = same-agreed 28 29 head head′ e (omega arith) i;
+        agreed = same-agreed 28 29 head head′ e (omega arith) (omega arith) i;
         stage = staged i;
         goAhead = eqb (e .behind goAheadAt (omega arith) i) 1;
         acceptedSums = same-sums 28 29 head head′ e acceptedAt (omega arith) (omega arith) i;
@@ -157,7 +153,7 @@ module _ (head : List ℕ) (rows : List Row) (whole : IsHead head) where
       let head′ = set head goAheadAt 1 in
       let e = byte-elsewhere head goAheadAt 1 (omega arith) in
       λ i. record {
-        agreed = same-agreed 29 30 head head′ e (omega arith) i;
+        agreed = same-agreed 29 30 head head′ e (omega arith) (omega arith) i;
         stage = stageOf (e .before stageAt (omega arith) i);
         goAhead = eqb (getD-set-same head goAheadAt 1 0 (omega arith) i) 1;
         acceptedSums = same-sums 29 30 head head′ e acceptedAt (omega arith) (omega arith) i;
@@ -166,7 +162,7 @@ module _ (head : List ℕ) (rows : List Row) (whole : IsHead head) where
       }
 
   -- a number in one of the four fields of money
-  module _ (at x : ℕ) (low : 30 ≤ at) (high : at + 8 ≤ headSize) (fits : x < 2 ^ 64) where
+  module _ (at x : ℕ) (low : 30 ≤ at) (high : at + 8 ≤ 64) (fits : x < 2 ^ 64) where
     abbrev after : List ℕ
     after = withNumber 8 head at x
 
@@ -194,7 +190,7 @@ module _ (head : List ℕ) (rows : List Row) (whole : IsHead head) where
         }
     unfolding shipmentIn
     with-sums accepted returned are-accepted are-returned = λ i. record {
-      agreed = same-agreed at (at + 8) head after elsewhere (omega arith) i;
+      agreed = same-agreed at (at + 8) head after elsewhere (omega arith) (omega arith) i;
       stage = stageOf (elsewhere .before stageAt (omega arith) i);
       goAhead = eqb (elsewhere .before goAheadAt (omega arith) i) 1;
       acceptedSums = are-accepted i;

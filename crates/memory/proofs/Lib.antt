@@ -11,5 +11,6 @@ pub mod HeadStores
 pub mod HeadFields
 pub mod NameLaws
 pub mod ReadLaws
+pub mod Columns
 pub mod EnterLaws
 pub mod Examples

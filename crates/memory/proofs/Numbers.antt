@@ -14,6 +14,19 @@ use Rattle.text.specs.Bytes.{same}
 use Rattle.text.proofs.Branches.{and-left, and-right, both-yes, both-ways}
 use Rattle.memory.specs.Number.{numberAt, withNumber, StoredIsRead}
 
+-- numbers whose bytes are the same, one by one, wherever they lie
+pub number-alike : (width : ℕ) (l l′ : List ℕ) (p q : ℕ) → ((j : ℕ) → j < width → getD l (p + j) 0 ≡ getD l′ (q + j) 0)
+    → numberAt width l p ≡ numberAt width l′ q
+unfolding numberAt
+number-alike zero l l′ p q same = refl
+number-alike (suc width) l l′ p q same =
+    let first = rw (add-zero p, add-zero q) at (same 0 (omega arith)) in
+    let rest = number-alike width l l′ (suc p) (suc q) (λ j h.
+    let next-p : suc p + j ≡ p + suc j = omega arith in
+    let next-q : suc q + j ≡ q + suc j = omega arith in
+    rw (next-p, next-q) (same (suc j) (omega arith))) in
+    omega (arith, first, rest)
+
 pub stored-is-read : (width : ℕ) (m : List ℕ) (at n : ℕ) → StoredIsRead width m at n
 unfolding numberAt withNumber
 stored-is-read zero m at n = record { back = λ room fits. omega arith; before = λ j h. refl; behind = λ j h. refl; as-long = refl }
@@ -63,12 +76,13 @@ module _ (m : List ℕ) (at : ℕ) where
   unfolding numberAt
   eight-bytes = rw fifth (omega arith)
 
-  pub four-stored : (n : ℕ)
-      → set (set (set (set m at (n % 256)) (at + 1) (n / 256 % 256)) (at + 2) (n / 65_536 % 256)) (at + 3) (n / 16_777_216 % 256) ≡ withNumber 4 m at n
+  pub two-stored : (n : ℕ) → set (set m at (n % 256)) (at + 1) (n / 256 % 256) ≡ withNumber 2 m at n
   unfolding withNumber
-  four-stored n =
-      rw (second, third, fourth)
-      (rw (div-div-eq-div-mul (n / 256) 256 256, div-div-eq-div-mul n 256 65_536, div-div-eq-div-mul n 256 256) refl)
+  two-stored n = rw second refl
+
+  pub four-stored : (n : ℕ) → withNumber 2 (withNumber 2 m at n) (at + 2) (n / 65_536) ≡ withNumber 4 m at n
+  unfolding withNumber
+  four-stored n = rw third (rw (div-div-eq-div-mul n 256 256) refl)
 
   pub eight-stored : (n : ℕ) → withNumber 4 (withNumber 4 m at n) (at + 4) (n / 4_294_967_296) ≡ withNumber 8 m at n
   unfolding withNumber

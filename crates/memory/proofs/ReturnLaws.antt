@@ -19,13 +19,13 @@ use Rattle.model.specs.Calls.{withState, waitsOn, cleared, afterReturn}
 use Rattle.model.specs.declared.Route.{Route}
 use Rattle.model.specs.declared.Route.the-variants.{Zwr, Opr, Zpr, Zzr}
 use Rattle.model.specs.declared.Row.{Row}
-use Rattle.memory.specs.Layout.{rowSize, rowAt, size, rowBytes}
+use Rattle.memory.specs.Layout.{codeAt, size, rowBytes}
 use Rattle.memory.specs.States.{kWaits, oWaits, stateOf}
-use Rattle.memory.specs.Rows.{stateAt, rowOf}
+use Rattle.memory.specs.Rows.{codeIn, rowOf}
 use Rattle.memory.specs.Inner.Stored.{withCodeAt}
 use Rattle.memory.specs.Inner.Returns.{waitsIn, stateAfter, routeHas, codeWaits, waitIn, codeAfter, WaitTable, RowReturned}
 use Rattle.memory.proofs.StateLaws.{alike, alike-equal, agree, agree-equal}
-use Rattle.memory.proofs.RowLaws.{code-stored}
+use Rattle.memory.proofs.RowLaws.{code-in, code-stored}
 
 -- a return, at each byte
 returned-right : Route → Money → ℕ → Bool
@@ -89,13 +89,12 @@ module _ (route : Route) (money : Money) (table : List ℕ) (is-table : WaitTabl
       by true h = least money h
       by false h = omega arith
 
-  module _ (m : List ℕ) (k : ℕ) (there : k < mostRows) (enough : size ≤ length m) (code-is : code ≡ getD (rowBytes m k) stateAt 0) where
-    state-then : stateOf (code - getD table code 0) ≡ stateAfter route money (stateOf (getD (rowBytes m k) stateAt 0))
+  module _ (m : List ℕ) (k : ℕ) (there : k < mostRows) (enough : size ≤ length m) (code-is : code ≡ codeIn (rowBytes m k)) where
+    state-then : stateOf (code - getD table code 0) ≡ stateAfter route money (stateOf (codeIn (rowBytes m k)))
     state-then = rw (is-table .told code byte) (after-by-code route money code byte ∙ ap (λ c. stateAfter route money (stateOf c)) code-is)
 
-    code-there : code ≡ getD m (rowAt k + stateAt) 0
-    unfolding rowBytes
-    code-there = code-is ∙ getD-take rowSize (drop (rowAt k) m) stateAt 0 (omega arith) ∙ getD-drop (rowAt k) m stateAt 0
+    code-there : code ≡ getD m (codeAt k) 0
+    code-there = code-is ∙ code-in m k there enough
 
     pub row-returned : RowReturned route money k m (withCodeAt m k (code - getD table code 0)) (getD table code 0)
     unfolding rowOf withCodeAt
@@ -108,7 +107,7 @@ module _ (route : Route) (money : Money) (table : List ℕ) (is-table : WaitTabl
           took = is-table .told code byte
               ∙ ap (λ t. onlyIf t (byMoney money 1 2)) (waits-by-code route money code byte ∙ ap (λ c. waitsIn route money (stateOf c)) code-is);
           still = λ none.
-              ap (λ n. set m (rowAt k + stateAt) (code - n)) none ∙ ap (set m (rowAt k + stateAt)) (none-taken code ∙ code-there) ∙ set-getD m (rowAt k + stateAt) 0;
+              ap (λ n. set m (codeAt k) (code - n)) none ∙ ap (set m (codeAt k)) (none-taken code ∙ code-there) ∙ set-getD m (codeAt k) 0;
         }
       where
         none-taken : (n : ℕ) → n - 0 ≡ n

@@ -4,8 +4,11 @@ use mathlib.Core.Bool.{Bool, cond, _&&_}
 use Prim.Native.Nat.{ℕ}
 use lib.Dec.{eqb, leb}
 use lib.ListN.{getD, take}
+use Rattle.money.specs.Money.{fee}
 use Rattle.money.specs.declared.Money.{Money}
 use Rattle.money.specs.declared.Money.the-variants.{K, O}
+use Rattle.fee.specs.Fee.{rate}
+use Rattle.fee.specs.declared.Terms.{Terms}
 use Rattle.epe.specs.declared.name.Name.{Name}
 use Rattle.model.specs.Shipment.{Agreed, PerMoney, Shipment}
 use Rattle.model.specs.declared.Row.{Row}
@@ -22,9 +25,9 @@ nameIn head = record {
   kind = getD head 23 0;
 }
 
--- The fee F.
-abbrev pub feeIn : List ℕ → ℕ
-feeIn head = numberAt 4 head 24
+-- The flat part and the rate.
+abbrev pub termsIn : List ℕ → Terms
+termsIn head = record { flat = fee (numberAt 4 head 24); rate = rate (numberAt 2 head 64) }
 
 -- The stage: 0 Waiting, 1 Paired, 2 Closed.
 unfoldable pub stageOf : ℕ → Stage
@@ -69,7 +72,7 @@ surplusIn money head = numberAt 8 head (returnedAt money)
 
 -- The shipment of a head and its orders.
 abbrev pub agreedIn : List ℕ → Agreed
-agreedIn head = record { name = nameIn head; fee = feeIn head }
+agreedIn head = record { name = nameIn head; terms = termsIn head }
 
 abbrev pub sumsIn : (Money → ℕ) → List ℕ → PerMoney
 sumsIn at head = record { k = numberAt 8 head (at K); o = numberAt 8 head (at O) }

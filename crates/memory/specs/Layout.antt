@@ -1,34 +1,44 @@
--- Where a book lies in lent memory: the number of shipments, then the heads, one to a shipment, then the rows, one to an order.
+-- Where a book lies in lent memory: the number of shipments, then the heads, one to a shipment, then the rows, one to an order, in columns.
 use mathlib.Core.Path.{_≡_}
-use mathlib.Core.List.{List}
+use mathlib.Core.List.{List, _++_}
 use Prim.Native.Nat.{ℕ, _+_, _*_, _≤_, _<_}
 use lib.ListN.{length, getD, take, drop}
 use Rattle.model.specs.Shipment.{mostShipments, mostRows}
 
 -- The bytes of a head, and of a row.
 abbrev pub headSize : ℕ
-headSize = 64
+headSize = 66
 
 abbrev pub rowSize : ℕ
-rowSize = 8
+rowSize = 11
 
--- Where they lie. Before the first head are 64 bytes, of which the first is the number of shipments, and the others are free.
+-- Where a head lies. Before the first are 64 bytes, of which the first is the number of shipments, and the others are free.
 abbrev pub headAt : ℕ → ℕ
 headAt i = 64 + headSize * i
 
-abbrev pub rowAt : ℕ → ℕ
-rowAt k = headAt mostShipments + rowSize * k
+-- Rows lie in columns: all amounts, then all fees, all remainders and all states. Where those of row k lie.
+abbrev pub amountAt : ℕ → ℕ
+amountAt k = headAt mostShipments + 4 * k
 
--- The bytes of a book: 18,496.
+abbrev pub feeAt : ℕ → ℕ
+feeAt k = amountAt mostRows + 4 * k
+
+abbrev pub remainderAt : ℕ → ℕ
+remainderAt k = feeAt mostRows + 2 * k
+
+abbrev pub codeAt : ℕ → ℕ
+codeAt k = remainderAt mostRows + k
+
+-- The bytes of a book: 24,704.
 abbrev pub size : ℕ
-size = rowAt mostRows
+size = codeAt mostRows
 
--- A head and a row, each as bytes of its own.
+-- A head and a row, each as bytes of its own; a row's are those of its amount, its state, its fee and its remainder.
 unfoldable pub headBytes : List ℕ → ℕ → List ℕ
 headBytes m i = take headSize (drop (headAt i) m)
 
 unfoldable pub rowBytes : List ℕ → ℕ → List ℕ
-rowBytes m k = take rowSize (drop (rowAt k) m)
+rowBytes m k = take 4 (drop (amountAt k) m) ++ (take 1 (drop (codeAt k) m) ++ (take 4 (drop (feeAt k) m) ++ take 2 (drop (remainderAt k) m)))
 
 -- Bytes that are as many as those of a head, or of a row.
 abbrev pub IsHead : List ℕ → Type 0
@@ -42,7 +52,7 @@ IsRow row = length row ≡ rowSize
 pub record Only (heads rows : ℕ → Type 0) (m m′ : List ℕ) : Type 0 where
   pub shipments : getD m′ 0 0 ≡ getD m 0 0
   pub other-heads : (i : ℕ) → i < mostShipments → (heads i → ⊥) → headBytes m′ i ≡ headBytes m i
-  pub other-rows : (k : ℕ) → (rows k → ⊥) → rowBytes m′ k ≡ rowBytes m k
+  pub other-rows : (k : ℕ) → k < mostRows → (rows k → ⊥) → rowBytes m′ k ≡ rowBytes m k
   pub behind : (j : ℕ) → size ≤ j → getD m′ j 0 ≡ getD m j 0
   pub as-long : length m′ ≡ length m
 

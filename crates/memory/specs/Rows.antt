@@ -1,17 +1,19 @@
--- An order's row in memory: its amount in the first four bytes, and its byte of state. The three bytes behind it are free.
+-- An order's row: its amount in the first four bytes, its byte of state, its fee in the next four, and the remainder in two.
 use mathlib.Core.List.{List}
 use Prim.Native.Nat.{ℕ}
 use lib.ListN.{getD}
+use Rattle.money.specs.Money.{amount, fee}
 use Rattle.model.specs.declared.Row.{Row}
 use Rattle.memory.specs.Number.{numberAt}
 use Rattle.memory.specs.States.{stateOf}
 
-abbrev pub stateAt : ℕ
-stateAt = 4
+abbrev pub codeIn : List ℕ → ℕ
+codeIn row = getD row 4 0
 
 unfoldable pub rowOf : List ℕ → Row
-rowOf row = record { amount = record { 0 = numberAt 4 row 0 }; state = stateOf (getD row stateAt 0) }
-
--- The byte of state with the free bytes behind it, as one number.
-abbrev pub stateBitsIn : List ℕ → ℕ
-stateBitsIn row = numberAt 4 row stateAt
+rowOf row = record {
+  amount = amount (numberAt 4 row 0);
+  fee = fee (numberAt 4 row 5);
+  remainder = numberAt 2 row 9;
+  state = stateOf (codeIn row);
+}

@@ -5,6 +5,8 @@ use crate::number::read_eight;
 use crate::number::read_four;
 use crate::number::read_two;
 use crate::number::store_eight;
+use fee::Rate;
+use fee::Terms;
 use model::Stage;
 use money::Amount;
 use money::Fee;
@@ -12,13 +14,13 @@ use money::Money;
 use money::Sum;
 ghost use mathlib.Core.Path.{_≡_};
 ghost use mathlib.Core.Bool.{_&&_};
-ghost use Prim.Native.Nat.{_+_, _*_, _≤_, _<_, _^_};
+ghost use Prim.Native.Nat.{_+_, _≤_, _<_, _^_};
 ghost use lib.ListN.{length};
 ghost use Rattle.money.specs.Money.{amount, fee, isSum, WithinSum, sumOf, groszeIn, moneyOfSum};
 ghost use Rattle.money.specs.declared.Money.the-variants.{K, O};
-ghost use Rattle.model.specs.Shipment.{mostShipments, mostRows, isWaiting, isPaired};
+ghost use Rattle.model.specs.Shipment.{mostShipments, isWaiting, isPaired};
 ghost use Rattle.memory.specs.Layout.{headSize, size, headBytes, IsHead};
-ghost use Rattle.memory.specs.Heads.{feeIn, stageIn, goAheadIn, flagsInForm, orderCountIn, acceptedAt, transfersIn, returnedAt, surplusIn};
+ghost use Rattle.memory.specs.Heads.{termsIn, stageIn, goAheadIn, flagsInForm, orderCountIn, acceptedAt, transfersIn, returnedAt, surplusIn};
 ghost use Rattle.memory.specs.Inner.Stored.{stageByte, withStageAt, withGoAheadAt, withTransfersAt, withSurplusAt};
 
 // Where the length of the identifier lies, behind the identifier, which is the first field.
@@ -33,8 +35,8 @@ pub const PAYMENT: usize = 22;
 // The kind.
 pub const KIND: usize = 23;
 
-// The fee F.
-pub const FEE: usize = 24;
+// The flat part.
+pub const FLAT: usize = 24;
 
 // The stage.
 const STAGE: usize = 28;
@@ -56,6 +58,9 @@ const RETURNED_K: usize = 48;
 
 // Surplus returned of O.
 const RETURNED_O: usize = 56;
+
+// The rate.
+pub const RATE: usize = 64;
 
 // The bytes of head i.
 pub fn head_bytes(memory: &[u8], i: usize) -> &[u8]
@@ -99,21 +104,15 @@ pub fn has_go_ahead(head: &[u8]) -> bool
     head[GO_AHEAD] == 1
 }
 
-// The fee F. What four bytes say is never above the cap of a sum.
-pub fn fee(head: &[u8]) -> Fee
+// The flat part and the rate. What four bytes say is never above the cap of a sum.
+pub fn terms(head: &[u8]) -> Terms
     requires { ⌜ IsHead (now head) ⌝ }
-    ensures { λ r. ⌜ (r ≡ fee (feeIn (now (head .entry)))) × (r .0 < 2 ^ 32) ⌝ }
+    ensures { λ r. ⌜ r ≡ termsIn (now (head .entry)) ⌝ }
 {
-    Fee::sum(read_four(head, FEE))
-}
-
-// The fees of n orders.
-pub fn fees(head: &[u8], n: u64) -> Fee
-    requires { ⌜ IsHead (now head) × (n ≤ mostRows) ⌝ }
-    ensures { λ r. ⌜ (r ≡ fee (n * feeIn (now (head .entry)))) × WithinSum (r .0) ⌝ }
-{
-    let fee = fee(head);
-    Fee::sum(n * fee.0)
+    Terms {
+        flat: Fee::sum(read_four(head, FLAT)),
+        rate: Rate(read_two(head, RATE)),
+    }
 }
 
 // How many orders the shipment has.

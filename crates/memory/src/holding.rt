@@ -1,8 +1,12 @@
 // Which moneys an order of a Paired shipment holds, by a table of the bytes of state.
+use crate::row::code;
 use crate::state::LAST_CODE;
 use text::bytes::smaller;
 ghost use mathlib.Core.Path.{_≡_};
-ghost use Rattle.memory.specs.Layout.{IsRow};
+ghost use Prim.Native.Nat.{_≤_, _<_};
+ghost use lib.ListN.{length};
+ghost use Rattle.model.specs.Shipment.{mostRows};
+ghost use Rattle.memory.specs.Layout.{size, rowBytes};
 ghost use Rattle.memory.specs.States.{stateOf};
 ghost use Rattle.memory.specs.Rows.{rowOf};
 ghost use Rattle.memory.specs.Inner.Holdings.{holdingOf, holdingTable};
@@ -77,12 +81,12 @@ pub fn holding_table() -> [u64; ENTRIES]
     HOLDINGS
 }
 
-// Which moneys the order holds, in a Paired shipment: 1 for K, and 2 more for O.
-pub fn holding(row: &[u8], table: &[u64]) -> u64
-    requires { ⌜ IsRow (now row) × (now table ≡ holdingTable) ⌝ }
-    ensures { λ r. ⌜ r ≡ holdingOf (rowOf (now (row .entry)) .state) ⌝ }
+// Which moneys the order of row k holds, in a Paired shipment: 1 for K, and 2 more for O.
+pub fn holding(memory: &[u8], k: usize, table: &[u64]) -> u64
+    requires { ⌜ (k < mostRows) × (size ≤ length (now memory)) × (now table ≡ holdingTable) ⌝ }
+    ensures { λ r. ⌜ r ≡ holdingOf (rowOf (rowBytes (now (memory .entry)) k) .state) ⌝ }
 {
-    holding_of(row[4], table)
+    holding_of(code(memory, k), table)
 }
 
 // Which moneys an order in the state that a byte says holds.

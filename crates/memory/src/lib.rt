@@ -1,5 +1,6 @@
 // The lent memory of a book: where its fields lie, read and stored in place. docs/LAYOUT.md has the table.
 pub mod class;
+pub mod column;
 pub mod enter;
 pub mod head;
 pub mod holding;
@@ -26,16 +27,19 @@ pub const MOST_ROWS: usize = 2_048;
 pub const HEADS: usize = 64;
 
 // The bytes of a head.
-pub const HEAD_SIZE: usize = 64;
+pub const HEAD_SIZE: usize = 66;
 
-// Where the rows begin.
-pub const ROWS: usize = HEADS + HEAD_SIZE * MOST_SHIPMENTS;
+// Where the columns of the rows begin: amounts, fees, remainders and states.
+pub const AMOUNTS: usize = HEADS + HEAD_SIZE * MOST_SHIPMENTS;
 
-// The bytes of a row.
-pub const ROW_SIZE: usize = 8;
+pub const FEES: usize = AMOUNTS + 4 * MOST_ROWS;
+
+pub const REMAINDERS: usize = FEES + 4 * MOST_ROWS;
+
+pub const STATES: usize = REMAINDERS + 2 * MOST_ROWS;
 
 // The bytes of a book.
-pub const SIZE: usize = ROWS + ROW_SIZE * MOST_ROWS;
+pub const SIZE: usize = STATES + MOST_ROWS;
 
 // How many shipments the memory says that it has.
 pub fn shipments(memory: &[u8]) -> usize

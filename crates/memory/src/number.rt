@@ -28,15 +28,22 @@ pub fn read_eight(memory: &[u8], at: usize) -> u64
     read_four(memory, at) + 0x1_0000_0000 * read_four(memory, at + 4)
 }
 
+// Stores the low two bytes of a number.
+pub fn store_two(memory: &mut [u8], at: usize, n: u64)
+    requires { ⌜ at + 2 ≤ length (now memory) ⌝ }
+    ensures { λ _. ⌜ now (memory .exit) ≡ withNumber 2 (now (memory .entry)) at n ⌝ }
+{
+    memory[at] = (n % 256) as u8;
+    memory[at + 1] = (n / 0x100 % 256) as u8;
+}
+
 // Stores the low four bytes of a number.
 pub fn store_four(memory: &mut [u8], at: usize, n: u64)
     requires { ⌜ at + 4 ≤ length (now memory) ⌝ }
     ensures { λ _. ⌜ now (memory .exit) ≡ withNumber 4 (now (memory .entry)) at n ⌝ }
 {
-    memory[at] = (n % 256) as u8;
-    memory[at + 1] = (n / 0x100 % 256) as u8;
-    memory[at + 2] = (n / 0x1_0000 % 256) as u8;
-    memory[at + 3] = (n / 0x100_0000 % 256) as u8;
+    store_two(memory, at, n);
+    store_two(memory, at + 2, n / 0x1_0000);
 }
 
 // Stores a number in eight bytes.

@@ -1,60 +1,62 @@
-// An order's row: read from its bytes, and stored in place.
-use crate::ROW_SIZE;
-use crate::ROWS;
+// An order's row: read from the columns of the rows, and stored in place.
+use crate::AMOUNTS;
+use crate::FEES;
+use crate::REMAINDERS;
+use crate::STATES;
 use crate::number::read_four;
+use crate::number::read_two;
 use crate::state::code_of;
 use crate::state::state_of;
-use model::Row;
 use model::State;
 use money::Amount;
+use money::Fee;
 ghost use mathlib.Core.Path.{_≡_};
-ghost use Prim.Native.Nat.{_%_, _≤_, _<_, _^_};
+ghost use Prim.Native.Nat.{_≤_, _<_, _^_};
 ghost use lib.ListN.{length};
 ghost use Rattle.model.specs.Shipment.{mostRows};
-ghost use Rattle.memory.specs.Layout.{size, rowBytes, IsRow};
+ghost use Rattle.memory.specs.Layout.{size, rowBytes};
 ghost use Rattle.memory.specs.States.{stateOf};
-ghost use Rattle.memory.specs.Rows.{rowOf, stateBitsIn};
+ghost use Rattle.memory.specs.Rows.{codeIn, rowOf};
 ghost use Rattle.memory.specs.Inner.Stored.{codeOf, withCodeAt};
 
-// Where the byte of state lies. The amount is the first field.
-pub const STATE: usize = 4;
-
-// The bytes of row k.
-pub fn row_bytes(memory: &[u8], k: usize) -> &[u8]
+// The amount of row k. What four bytes say is never above the cap of a sum.
+pub fn amount(memory: &[u8], k: usize) -> Amount
     requires { ⌜ (k < mostRows) × (size ≤ length (now memory)) ⌝ }
-    ensures { λ r. ⌜ (now r ≡ rowBytes (now (memory .entry)) k) × IsRow (now r) ⌝ }
+    ensures { λ r. ⌜ (r ≡ rowOf (rowBytes (now (memory .entry)) k) .amount) × (r .0 < 2 ^ 32) ⌝ }
 {
-    let at = ROWS + ROW_SIZE * k;
-    let end = at + ROW_SIZE;
-    &memory[at..end]
+    Amount::sum(read_four(memory, AMOUNTS + 4 * k))
 }
 
-// The amount that a row says. What four bytes say is never above the cap of a sum.
-pub fn amount(row: &[u8]) -> Amount
-    requires { ⌜ IsRow (now row) ⌝ }
-    ensures { λ r. ⌜ (r ≡ rowOf (now (row .entry)) .amount) × (r .0 < 2 ^ 32) ⌝ }
+// The fee of row k, likewise.
+pub fn fee(memory: &[u8], k: usize) -> Fee
+    requires { ⌜ (k < mostRows) × (size ≤ length (now memory)) ⌝ }
+    ensures { λ r. ⌜ (r ≡ rowOf (rowBytes (now (memory .entry)) k) .fee) × (r .0 < 2 ^ 32) ⌝ }
 {
-    Amount::sum(read_four(row, 0))
+    Fee::sum(read_four(memory, FEES + 4 * k))
 }
 
-// The byte of state with the free bytes behind it, lowest first. A loop reads these four of many rows at a time, as it does an amount.
-pub fn state_bits(row: &[u8]) -> u64
-    requires { ⌜ IsRow (now row) ⌝ }
-    ensures { λ r. ⌜ (r ≡ stateBitsIn (now (row .entry))) × (stateOf (r % 256) ≡ rowOf (now (row .entry)) .state) ⌝ }
+// The remainder of row k.
+pub fn remainder(memory: &[u8], k: usize) -> u64
+    requires { ⌜ (k < mostRows) × (size ≤ length (now memory)) ⌝ }
+    ensures { λ r. ⌜ (r ≡ rowOf (rowBytes (now (memory .entry)) k) .remainder) × (r < 2 ^ 16) ⌝ }
 {
-    read_four(row, STATE)
+    read_two(memory, REMAINDERS + 2 * k)
 }
 
-// The row that its bytes say.
-pub fn read_row(row: &[u8]) -> Row
-    requires { ⌜ IsRow (now row) ⌝ }
-    ensures { λ r. ⌜ r ≡ rowOf (now (row .entry)) ⌝ }
+// The byte of state of row k.
+pub fn code(memory: &[u8], k: usize) -> u8
+    requires { ⌜ (k < mostRows) × (size ≤ length (now memory)) ⌝ }
+    ensures { λ r. ⌜ (r ≡ codeIn (rowBytes (now (memory .entry)) k)) × (stateOf r ≡ rowOf (rowBytes (now (memory .entry)) k) .state) × (r < 256) ⌝ }
 {
-    let amount = amount(row);
-    Row {
-        amount,
-        state: state_of(row[STATE]),
-    }
+    memory[STATES + k]
+}
+
+// The state of row k.
+pub fn state(memory: &[u8], k: usize) -> State
+    requires { ⌜ (k < mostRows) × (size ≤ length (now memory)) ⌝ }
+    ensures { λ r. ⌜ r ≡ rowOf (rowBytes (now (memory .entry)) k) .state ⌝ }
+{
+    state_of(code(memory, k))
 }
 
 // Stores a byte of state in row k.
@@ -62,8 +64,7 @@ pub fn store_code(memory: &mut [u8], k: usize, code: u8)
     requires { ⌜ (k < mostRows) × (size ≤ length (now memory)) ⌝ }
     ensures { λ _. ⌜ now (memory .exit) ≡ withCodeAt (now (memory .entry)) k code ⌝ }
 {
-    let at = ROWS + ROW_SIZE * k;
-    memory[at + STATE] = code;
+    memory[STATES + k] = code;
 }
 
 // Stores a state in row k.

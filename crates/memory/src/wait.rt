@@ -1,6 +1,5 @@
 // A return in rows: what the wait of a money adds to a byte of state, by a table of all bytes, and a wait taken out of a row.
-use crate::row::STATE;
-use crate::row::row_bytes;
+use crate::row::code;
 use crate::row::store_code;
 use crate::state::k_waits;
 use crate::state::o_waits;
@@ -45,7 +44,7 @@ pub fn store_return(memory: &mut [u8], k: usize, table: &[u8]) -> u64
     requires { ⌜ (k < mostRows) × (size ≤ length (now memory)) × IsWaitTable (now table) ⌝ }
     ensures { λ r. ⌜ ((route : Route) (money : Money) → WaitTable route money (now (table .entry)) → RowReturned route money k (now (memory .entry)) (now (memory .exit)) r) × (r ≤ 2) ⌝ }
 {
-    let code = row_bytes(memory, k)[STATE];
+    let code = code(memory, k);
     let taken = table[code as usize];
     store_code(memory, k, code - taken);
     taken as u64

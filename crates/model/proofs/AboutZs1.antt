@@ -16,12 +16,12 @@ use Rattle.calendar.specs.Reading.{dateOf, dateOfNumber, dateOfDigits, dateInWi
 use Rattle.calendar.specs.Time.{clockTime, timeOfNumber, timeOfDay}
 use Rattle.epe.specs.Questions.{isPassed, asked}
 use Rattle.epe.specs.Ident.{identifier, identOf, sameIdent}
-use Rattle.epe.specs.Profile.{profileFits, feesFit}
+use Rattle.epe.specs.Profile.{each, profileFits, ratesFit, profileQuestions, termsFor}
 use Rattle.epe.specs.Name.{nameQuestions, nameOf, hasLongDate, shortTitle, titleQuestions, titleOf}
 use Rattle.epe.specs.File.{marked}
 use Rattle.epe.specs.Opening.{fileQuestions, fixedQuestions, repeatedQuestions, openingQuestions, opening}
 use Rattle.contents.specs.Faults.{sized, empty, placed, housed, postcode, extra, spaced, unspaced, faultQuestions, faultOf}
-use Rattle.contents.specs.Contents.{dateQuestions, statedQuestions, shaped, allShaped, allPriced, total, recordQuestions, contentsQuestions, contents}
+use Rattle.contents.specs.Contents.{dateQuestions, statedQuestions, shaped, allShaped, allPriced, allCharged, total, recordQuestions, contentsQuestions, contents}
 use Rattle.contents.specs.Contents.{orderOf, orders, faultyCount}
 use Rattle.model.specs.Shipment.{need, free, held, anyFaulty}
 use Rattle.model.specs.Calls.{Call, transferred, goneAhead, paired, closed, onOrder, waiting, waitingOrders, returnedBy, surplusReturned, acted}
@@ -33,7 +33,7 @@ use Rattle.model.specs.LongTitles.{LongTitles}
 
 -- names the definitions that the table computes
 unfoldable pub stepped : Book → Call → Step
-unfolding digit letter letterOrDigit lettersOrDigits same hasByte number numberAfter isNumber valueOf fields onto lines parted withoutLastEnd stray ascii tailOctet lead2 lead3 lead4 point2 point3 point4 surrogate range2 range3 range4 row2 row3 row4 width wellFormedAfter starts codePoints isAmount groszeOf textOf together real leap monthLength inWindow dayNumber daysOfYears daysOfMonths dateOf dateOfNumber dateOfDigits dateInWindow clockTime timeOfNumber timeOfDay asked isPassed identifier identOf sameIdent profileFits feesFit nameQuestions nameOf hasLongDate shortTitle titleQuestions titleOf marked fileQuestions fixedQuestions repeatedQuestions openingQuestions opening sized empty placed housed postcode extra spaced unspaced faultQuestions faultOf dateQuestions statedQuestions shaped allShaped allPriced total recordQuestions contentsQuestions contents orderOf orders faultyCount need free held anyFaulty transferred goneAhead paired closed onOrder waiting waitingOrders returnedBy surplusReturned acted sameName entered intakeQuestions takenIn transferredIn step
+unfolding digit letter letterOrDigit lettersOrDigits same hasByte number numberAfter isNumber valueOf fields onto lines parted withoutLastEnd stray ascii tailOctet lead2 lead3 lead4 point2 point3 point4 surrogate range2 range3 range4 row2 row3 row4 width wellFormedAfter starts codePoints isAmount groszeOf textOf together real leap monthLength inWindow dayNumber daysOfYears daysOfMonths dateOf dateOfNumber dateOfDigits dateInWindow clockTime timeOfNumber timeOfDay asked isPassed identifier identOf sameIdent each profileFits ratesFit profileQuestions termsFor nameQuestions nameOf hasLongDate shortTitle titleQuestions titleOf marked fileQuestions fixedQuestions repeatedQuestions openingQuestions opening sized empty placed housed postcode extra spaced unspaced faultQuestions faultOf dateQuestions statedQuestions shaped allShaped allPriced allCharged total recordQuestions contentsQuestions contents orderOf orders faultyCount need free held anyFaulty transferred goneAhead paired closed onOrder waiting waitingOrders returnedBy surplusReturned acted sameName entered intakeQuestions takenIn transferredIn step
 stepped = step
 
 computed : Table × Neighbours × LongTitles

@@ -1,22 +1,21 @@
 -- One act on one sound shipment: a refusal leaves all as it was, and what the shipment holds and has free changes just by what the answer says
 -- was accepted and what left.
 -- Assumes nothing.
-use mathlib.Core.Path.{_≡_, refl, sym, ap}
+use mathlib.Core.Path.{_≡_, refl, ap}
 use mathlib.Core.Bool.{Bool, true, false, cond, _&&_, _||_, false≢true}
 use mathlib.Core.List.{List, [], _∷_, map}
-use Prim.Native.Nat.{ℕ, _+_, _-_, _*_, _≤_, _<_}
+use Prim.Native.Nat.{ℕ, _+_, _-_, _≤_, _<_}
 use native.Mathlib.Omega.{arith}
-use native.Mathlib.Nat.{zero-mul, suc-mul}
-use lib.ListN.{length, set, length-set, length-map}
+use lib.ListN.{length, set}
 use Rattle.text.proofs.Branches.{cond-either}
-use Rattle.money.specs.declared.Amount.{Amount}
 use Rattle.money.specs.declared.Money.{Money}
 use Rattle.money.specs.declared.Money.the-variants.{K, O}
+use Rattle.fee.specs.declared.Terms.{Terms}
 use Rattle.epe.specs.Questions.{Question, AllYes, asked}
 use Rattle.epe.specs.Name.{titleOf}
 use Rattle.epe.specs.declared.ident.Ident.{Ident}
 use Rattle.epe.proofs.QuestionLaws.{asked-either}
-use Rattle.model.specs.Shipment.{byMoney, Shipment, accepted, returned, isWaiting, isPaired, onlyIf, sumOver, waits, worth, need}
+use Rattle.model.specs.Shipment.{Shipment, accepted, returned, isWaiting, isPaired, onlyIf, sumOver, waits, worth, need}
 use Rattle.model.specs.Shipment.{needOncePaired, free, holds, held}
 use Rattle.model.specs.Calls.{Act, GoAhead, Pair, Close, OnOrder, Return, Call, Transfer, On}
 use Rattle.model.specs.Calls.{Answer, Done, IsPaired, Short, Returned, isRefusal, Outcome, leave, refusing}
@@ -36,19 +35,19 @@ use Rattle.model.specs.declared.State.{State}
 use Rattle.model.specs.declared.State.the-variants.{Open, Posted, Paid, Faulty, Undelivered, Withdrawn}
 use Rattle.model.proofs.Asking.{not-both}
 use Rattle.model.proofs.Sums.{sum-set, sum-moved, sum-map}
-use Rattle.model.proofs.Shipments.{only-if-true, only-if-false, waiting-unpaired, amountOf, same-need, same-need-once, both-covered}
+use Rattle.model.proofs.Shipments.{only-if-true, only-if-false, waiting-unpaired, return-worth, both-covered}
 use Rattle.model.proofs.Shipments.{stateFor, fitting-state, in-range}
 use Rattle.model.proofs.SoundParts.{halves, InOrder}
 
 -- What an order holds in a Paired shipment.
-abbrev pub heldBy : Money → Shipment → Row → ℕ
-heldBy money s row = onlyIf (holds money (row .state)) (worth money s row)
+abbrev pub heldBy : Money → Row → ℕ
+heldBy money row = onlyIf (holds money (row .state)) (worth money row)
 
 -- What conservation needs of a shipment: its transfers cover what is taken from them; before pairing every order still holds its whole worth, so
 -- that pairing moves just the need; and no surplus was returned while it waits.
 pub record Balanced (s : Shipment) : Type 0 where
   pub covered : (money : Money) → needOncePaired money s + returned money s ≤ accepted money s
-  pub whole : isPaired (s .stage) ≡ false → (money : Money) → sumOver (heldBy money s) (s .rows) ≡ need money s
+  pub whole : isPaired (s .stage) ≡ false → (money : Money) → sumOver (heldBy money) (s .rows) ≡ need money s
   pub unreturned : isWaiting (s .stage) ≡ true → (money : Money) → returned money s ≡ 0
 
 -- a sound shipment is balanced: before pairing its orders are Open, or Faulty with both moneys waiting
@@ -64,32 +63,25 @@ unpaired-holds (Faulty fault false o) e money = absurd (false≢true e)
 unpaired-holds (Undelivered k) e money = absurd (false≢true e)
 unpaired-holds (Withdrawn k o) e money = absurd (false≢true e)
 
-module _ (stage : Stage) (s : Shipment) (unpaired : isPaired stage ≡ false) where
-  row-whole : (money : Money) (row : Row) → rowSound stage row ≡ true → heldBy money s row ≡ worth money s row
+module _ (terms : Terms) (stage : Stage) (unpaired : isPaired stage ≡ false) (money : Money) where
+  row-whole : (row : Row) → rowSound terms stage row ≡ true → heldBy money row ≡ worth money row
   unfolding rowSound
-  row-whole money row h =
+  row-whole row h =
       let before : (isPaired stage || beforePairing (row .state)) ≡ true = search halves in
-      only-if-true (holds money (row .state)) (worth money s row) (unpaired-holds (row .state) (rw unpaired at before) money)
+      only-if-true (holds money (row .state)) (worth money row) (unpaired-holds (row .state) (rw unpaired at before) money)
 
-  rows-whole : (money : Money) (rows : List Row) → rowsSound stage rows ≡ true
-      → sumOver (heldBy money s) rows ≡ byMoney money (sumOver amountOf rows) (length rows * s .agreed .fee)
+  rows-whole : (rows : List Row) → rowsSound terms stage rows ≡ true → sumOver (heldBy money) rows ≡ sumOver (worth money) rows
   unfolding rowsSound
-  rows-whole K [] h = refl
-  rows-whole O [] h = sym (zero-mul (s .agreed .fee))
-  rows-whole K (row ∷ rows) h = omega (arith, row-whole K row (search halves), rows-whole K rows (search halves))
-  rows-whole O (row ∷ rows) h = omega (arith, row-whole O row (search halves), rows-whole O rows (search halves), suc-mul (length rows) (s .agreed .fee))
+  rows-whole [] h = refl
+  rows-whole (row ∷ rows) h = omega (arith, row-whole row (search halves), rows-whole rows (search halves))
 
 pub balanced : (s : Shipment) → InOrder s → Balanced s
 unfolding need
 balanced s h = record {
   covered = λ money. omega (arith, h .moneys money .covered);
-  whole = whole;
+  whole = λ unpaired money. rows-whole (s .agreed .terms) (s .stage) unpaired money (s .rows) (h .rows-sound);
   unreturned = λ waiting money. h .moneys money .unreturned waiting;
 }
-  where
-    whole : isPaired (s .stage) ≡ false → (money : Money) → sumOver (heldBy money s) (s .rows) ≡ need money s
-    whole unpaired K = rows-whole (s .stage) s unpaired K (s .rows) (h .rows-sound)
-    whole unpaired O = rows-whole (s .stage) s unpaired O (s .rows) (h .rows-sound)
 
 -- What a call does to its shipment, as demand 3 wants it.
 pub record Fair (call : Call) (s : Shipment) (outcome : Outcome) : Type 0 where
@@ -137,16 +129,13 @@ module _ (s : Shipment) (b : Balanced s) (n : ℕ) where
 
 module _ (ident : Ident) (s : Shipment) (b : Balanced s) where
   go-ahead-fair : Fair (On ident GoAhead) s (leave Done (withGoAhead s))
-  unfolding held free
-  go-ahead-fair =
-      let t = withGoAhead s in
-      let needs : (money : Money) → need money t ≡ need money s = λ money. same-need money s t refl refl refl in
-      record {
-        name = refl;
-        refused = λ e. absurd (false≢true e);
-        conserves = λ money. omega (arith, same-need-once money s t refl (needs money));
-        grows = λ money. omega arith;
-      }
+  unfolding held free need
+  go-ahead-fair = record {
+    name = refl;
+    refused = λ e. absurd (false≢true e);
+    conserves = λ money. refl;
+    grows = λ money. omega arith;
+  }
 
   gone-ahead-fair : Fair (On ident GoAhead) s (goneAhead s)
   unfolding goneAhead
@@ -162,7 +151,7 @@ module _ (ident : Ident) (s : Shipment) (b : Balanced s) where
 
     none-held : (money : Money) → held money s ≡ 0
     unfolding held
-    none-held money = only-if-false (isPaired (s .stage)) (sumOver (heldBy money s) (s .rows)) unpaired
+    none-held money = only-if-false (isPaired (s .stage)) (sumOver (heldBy money) (s .rows)) unpaired
 
     close-conserves : (money : Money) → held money s + free money s + 0 ≡ held money (withStage Closed s) + free money (withStage Closed s) + 0
     unfolding held free
@@ -179,13 +168,12 @@ module _ (ident : Ident) (s : Shipment) (b : Balanced s) where
     -- both needs covered
     module _ (covers : (money : Money) → need money s ≤ accepted money s) where
       pair-covers : (money : Money) → need money (withStage Paired s) + returned money s ≤ accepted money s
-      pair-covers money = omega (arith, covers money, b .unreturned waits money, same-need money s (withStage Paired s) refl refl refl)
+      unfolding need
+      pair-covers money = omega (arith, covers money, b .unreturned waits money)
 
       pair-conserves : (money : Money) → held money s + free money s + 0 ≡ held money (withStage Paired s) + free money (withStage Paired s) + 0
-      unfolding held free
-      pair-conserves money =
-          omega
-          (arith, no-need money, none-held money, pair-covers money, b .whole unpaired money, same-need money s (withStage Paired s) refl refl refl)
+      unfolding held free need
+      pair-conserves money = omega (arith, no-need money, none-held money, pair-covers money, b .whole unpaired money)
 
       pair-fair : Fair (On ident Pair) s (leave IsPaired (withStage Paired s))
       pair-fair = record {
@@ -211,13 +199,13 @@ module _ (ident : Ident) (s : Shipment) (b : Balanced s) where
 -- new orders in a Paired shipment: what they hold falls by what left, and the need stays
 module _ (call : Call) (s : Shipment) (b : Balanced s) (is-paired : isPaired (s .stage) ≡ true) (rows : List Row) (answer : Answer) where
   module _
-      (counts : length rows ≡ length (s .rows))
-      (sums : sumOver amountOf rows ≡ sumOver amountOf (s .rows))
-      (fallen : (money : Money) → sumOver (heldBy money s) rows + moved call answer .goesOut money ≡ sumOver (heldBy money s) (s .rows))
+      (sums : (money : Money) → sumOver (worth money) rows ≡ sumOver (worth money) (s .rows))
+      (fallen : (money : Money) → sumOver (heldBy money) rows + moved call answer .goesOut money ≡ sumOver (heldBy money) (s .rows))
       (none-in : (money : Money) → moved call answer .comesIn money ≡ 0)
       (taken : isRefusal answer ≡ false) where
     rows-need : (money : Money) → needOncePaired money (withRows rows s) ≡ needOncePaired money s
-    rows-need money = same-need-once money s (withRows rows s) refl (same-need money s (withRows rows s) refl counts sums)
+    unfolding need
+    rows-need money = ap (onlyIf (isPaired (s .stage))) (sums money)
 
     rows-conserve : (money : Money)
         → held money s + free money s + moved call answer .comesIn money ≡ held money (withRows rows s) + free money (withRows rows s) + moved call answer .goesOut money
@@ -228,8 +216,8 @@ module _ (call : Call) (s : Shipment) (b : Balanced s) (is-paired : isPaired (s 
           rows-need money,
           fallen money,
           none-in money,
-          only-if-true (isPaired (s .stage)) (sumOver (heldBy money s) rows) is-paired,
-          only-if-true (isPaired (s .stage)) (sumOver (heldBy money s) (s .rows)) is-paired,
+          only-if-true (isPaired (s .stage)) (sumOver (heldBy money) rows) is-paired,
+          only-if-true (isPaired (s .stage)) (sumOver (heldBy money) (s .rows)) is-paired,
         )
 
     rows-fair : Fair call s (leave answer (withRows rows s))
@@ -241,30 +229,30 @@ module _ (call : Call) (s : Shipment) (b : Balanced s) (is-paired : isPaired (s 
     }
 
 -- what the order holds less by a deed is what leaves
-deed-moves : (deed : Deed) (ident : Ident) (number : ℕ) (s : Shipment) (row : Row) (money : Money)
-    → heldBy money s (withState (becomes deed) row) + moved (On ident (OnOrder deed number)) (says deed s row) .goesOut money
-    ≡ heldBy money s (withState (stateFor deed) row)
-deed-moves Post ident number s row K = omega arith
-deed-moves Post ident number s row O = omega arith
-deed-moves Pay ident number s row K = omega arith
-deed-moves Pay ident number s row O = omega arith
-deed-moves MarkUndelivered ident number s row K = omega arith
-deed-moves MarkUndelivered ident number s row O = omega arith
-deed-moves Withdraw ident number s row K = omega arith
-deed-moves Withdraw ident number s row O = omega arith
+deed-moves : (deed : Deed) (ident : Ident) (number : ℕ) (row : Row) (money : Money)
+    → heldBy money (withState (becomes deed) row) + moved (On ident (OnOrder deed number)) (says deed row) .goesOut money
+    ≡ heldBy money (withState (stateFor deed) row)
+deed-moves Post ident number row K = omega arith
+deed-moves Post ident number row O = omega arith
+deed-moves Pay ident number row K = omega arith
+deed-moves Pay ident number row O = omega arith
+deed-moves MarkUndelivered ident number row K = omega arith
+deed-moves MarkUndelivered ident number row O = omega arith
+deed-moves Withdraw ident number row K = omega arith
+deed-moves Withdraw ident number row O = omega arith
 
-deed-brings-none : (deed : Deed) (ident : Ident) (number : ℕ) (s : Shipment) (row : Row) (money : Money)
-    → moved (On ident (OnOrder deed number)) (says deed s row) .comesIn money ≡ 0
-deed-brings-none Post ident number s row money = refl
-deed-brings-none Pay ident number s row money = refl
-deed-brings-none MarkUndelivered ident number s row money = refl
-deed-brings-none Withdraw ident number s row money = refl
+deed-brings-none : (deed : Deed) (ident : Ident) (number : ℕ) (row : Row) (money : Money)
+    → moved (On ident (OnOrder deed number)) (says deed row) .comesIn money ≡ 0
+deed-brings-none Post ident number row money = refl
+deed-brings-none Pay ident number row money = refl
+deed-brings-none MarkUndelivered ident number row money = refl
+deed-brings-none Withdraw ident number row money = refl
 
-deed-taken : (deed : Deed) (s : Shipment) (row : Row) → isRefusal (says deed s row) ≡ false
-deed-taken Post s row = refl
-deed-taken Pay s row = refl
-deed-taken MarkUndelivered s row = refl
-deed-taken Withdraw s row = refl
+deed-taken : (deed : Deed) (row : Row) → isRefusal (says deed row) ≡ false
+deed-taken Post row = refl
+deed-taken Pay row = refl
+deed-taken MarkUndelivered row = refl
+deed-taken Withdraw row = refl
 
 module _ (ident : Ident) (deed : Deed) (number : ℕ) (s : Shipment) (b : Balanced s) where
   abbrev order : Row
@@ -275,110 +263,98 @@ module _ (ident : Ident) (deed : Deed) (number : ℕ) (s : Shipment) (b : Balanc
 
   module _ (is-paired : isPaired (s .stage) ≡ true) (there : number - 1 < length (s .rows)) (fitting : fits deed (order .state) ≡ true) where
     deed-held : (money : Money)
-        → sumOver (heldBy money s) (set (s .rows) (number - 1) after) + moved (On ident (OnOrder deed number)) (says deed s order) .goesOut money
-        ≡ sumOver (heldBy money s) (s .rows)
+        → sumOver (heldBy money) (set (s .rows) (number - 1) after) + moved (On ident (OnOrder deed number)) (says deed order) .goesOut money
+        ≡ sumOver (heldBy money) (s .rows)
     deed-held money =
         omega (
           arith,
-          sum-set (heldBy money s) (s .rows) (number - 1) after noOrder there,
-          deed-moves deed ident number s order money,
-          ap (λ state. heldBy money s (withState state order)) (fitting-state deed (order .state) fitting),
+          sum-set (heldBy money) (s .rows) (number - 1) after noOrder there,
+          deed-moves deed ident number order money,
+          ap (λ state. heldBy money (withState state order)) (fitting-state deed (order .state) fitting),
         )
 
-    deed-fair : Fair (On ident (OnOrder deed number)) s (leave (says deed s order) (withRows (set (s .rows) (number - 1) after) s))
+    deed-fair : Fair (On ident (OnOrder deed number)) s (leave (says deed order) (withRows (set (s .rows) (number - 1) after) s))
     deed-fair =
-        rows-fair (On ident (OnOrder deed number)) s b is-paired (set (s .rows) (number - 1) after) (says deed s order)
-        (length-set (s .rows) (number - 1) after)
-        (omega (arith, sum-set amountOf (s .rows) (number - 1) after noOrder there))
+        rows-fair (On ident (OnOrder deed number)) s b is-paired (set (s .rows) (number - 1) after) (says deed order)
+        (λ money. omega (arith, sum-set (worth money) (s .rows) (number - 1) after noOrder there))
         deed-held
-        (deed-brings-none deed ident number s order)
-        (deed-taken deed s order)
+        (deed-brings-none deed ident number order)
+        (deed-taken deed order)
 
   on-order-fair : Fair (On ident (OnOrder deed number)) s (onOrder deed number s)
   unfolding onOrder
   on-order-fair = fairly _ s _ _ (λ yes. deed-fair (yes .0) (in-range _ number (yes .1 .0)) (yes .1 .1 .0))
 
--- what waits on a route goes back: an order holds less just what it waited with, nothing less of the other money, and keeps its amount
-abbrev rowOf : Amount → State → Row
-rowOf amount state = record { amount = amount; state = state }
-
+-- what waits on a route goes back: an order holds less just what it waited with, and nothing less of the other money
 abbrev afterIf : Bool → Money → Row → Row
 afterIf t money row = cond t (withState (cleared money (row .state)) row) row
 
-back-same : (t : Bool) (money : Money) (s : Shipment) (amount : Amount) (state : State)
-    → heldBy money s (afterIf (t && waits money state) money (rowOf amount state)) + onlyIf (t && waits money state) (worth money s (rowOf amount state))
-    ≡ heldBy money s (rowOf amount state)
-back-same false money s amount state = omega arith
-back-same true money s amount Open = omega arith
-back-same true money s amount Posted = omega arith
-back-same true money s amount Paid = omega arith
-back-same true K s amount (Faulty fault true o) = omega arith
-back-same true K s amount (Faulty fault false o) = omega arith
-back-same true O s amount (Faulty fault k true) = omega arith
-back-same true O s amount (Faulty fault k false) = omega arith
-back-same true K s amount (Undelivered true) = omega arith
-back-same true K s amount (Undelivered false) = omega arith
-back-same true O s amount (Undelivered k) = omega arith
-back-same true K s amount (Withdrawn true o) = omega arith
-back-same true K s amount (Withdrawn false o) = omega arith
-back-same true O s amount (Withdrawn k true) = omega arith
-back-same true O s amount (Withdrawn k false) = omega arith
+back-same : (t : Bool) (money : Money) (row : Row) (state : State)
+    → heldBy money (afterIf (t && waits money state) money (withState state row)) + onlyIf (t && waits money state) (worth money row)
+    ≡ heldBy money (withState state row)
+back-same false money row state = omega arith
+back-same true money row Open = omega arith
+back-same true money row Posted = omega arith
+back-same true money row Paid = omega arith
+back-same true K row (Faulty fault true o) = omega arith
+back-same true K row (Faulty fault false o) = omega arith
+back-same true O row (Faulty fault k true) = omega arith
+back-same true O row (Faulty fault k false) = omega arith
+back-same true K row (Undelivered true) = omega arith
+back-same true K row (Undelivered false) = omega arith
+back-same true O row (Undelivered k) = omega arith
+back-same true K row (Withdrawn true o) = omega arith
+back-same true K row (Withdrawn false o) = omega arith
+back-same true O row (Withdrawn k true) = omega arith
+back-same true O row (Withdrawn k false) = omega arith
 
 abbrev theOther : Money → Money
 theOther K = O
 theOther O = K
 
-back-other : (t : Bool) (money : Money) (s : Shipment) (amount : Amount) (state : State)
-    → heldBy (theOther money) s (afterIf t money (rowOf amount state)) ≡ heldBy (theOther money) s (rowOf amount state)
-back-other false money s amount state = refl
-back-other true money s amount Open = refl
-back-other true money s amount Posted = refl
-back-other true money s amount Paid = refl
-back-other true K s amount (Faulty fault k o) = refl
-back-other true O s amount (Faulty fault k o) = refl
-back-other true K s amount (Undelivered k) = refl
-back-other true O s amount (Undelivered k) = refl
-back-other true K s amount (Withdrawn k o) = refl
-back-other true O s amount (Withdrawn k o) = refl
-
-back-amount : (t : Bool) (money : Money) (row : Row) → amountOf (afterIf t money row) ≡ amountOf row
-back-amount true money row = refl
-back-amount false money row = refl
+back-other : (t : Bool) (money : Money) (row : Row) (state : State)
+    → heldBy (theOther money) (afterIf t money (withState state row)) ≡ heldBy (theOther money) (withState state row)
+back-other false money row state = refl
+back-other true money row Open = refl
+back-other true money row Posted = refl
+back-other true money row Paid = refl
+back-other true K row (Faulty fault k o) = refl
+back-other true O row (Faulty fault k o) = refl
+back-other true K row (Undelivered k) = refl
+back-other true O row (Undelivered k) = refl
+back-other true K row (Withdrawn k o) = refl
+back-other true O row (Withdrawn k o) = refl
 
 module _ (route : Route) (s : Shipment) where
   returned-same : (money : Money)
-      → sumOver (heldBy money s) (map (afterReturn route money) (s .rows)) + waiting route money s ≡ sumOver (heldBy money s) (s .rows)
+      → sumOver (heldBy money) (map (afterReturn route money) (s .rows)) + waiting route money s ≡ sumOver (heldBy money) (s .rows)
   unfolding waiting
   returned-same money =
-      sum-moved (heldBy money s) (λ row. onlyIf (waitsOn route money row) (worth money s row)) (heldBy money s) (afterReturn route money)
-      (λ row. back-same (takes route (row .state)) money s (row .amount) (row .state))
+      sum-moved (heldBy money) (λ row. onlyIf (waitsOn route money row) (worth money row)) (heldBy money) (afterReturn route money)
+      (λ row. back-same (takes route (row .state)) money row (row .state))
       (s .rows)
 
   returned-other : (money : Money)
-      → sumOver (heldBy (theOther money) s) (map (afterReturn route money) (s .rows)) ≡ sumOver (heldBy (theOther money) s) (s .rows)
+      → sumOver (heldBy (theOther money)) (map (afterReturn route money) (s .rows)) ≡ sumOver (heldBy (theOther money)) (s .rows)
   returned-other money =
-      sum-map (heldBy (theOther money) s) (heldBy (theOther money) s) (afterReturn route money)
-      (λ row. back-other (waitsOn route money row) money s (row .amount) (row .state))
+      sum-map (heldBy (theOther money)) (heldBy (theOther money)) (afterReturn route money)
+      (λ row. back-other (waitsOn route money row) money row (row .state))
       (s .rows)
 
   returned-held : (other money : Money)
-      → sumOver (heldBy money s) (map (afterReturn route other) (s .rows)) + onlyIf (isMoney money other) (waiting route other s)
-      ≡ sumOver (heldBy money s) (s .rows)
+      → sumOver (heldBy money) (map (afterReturn route other) (s .rows)) + onlyIf (isMoney money other) (waiting route other s)
+      ≡ sumOver (heldBy money) (s .rows)
   returned-held K K = returned-same K
   returned-held O O = returned-same O
   returned-held K O = omega (arith, returned-other K)
   returned-held O K = omega (arith, returned-other O)
-
-  returned-amounts : (money : Money) → sumOver amountOf (map (afterReturn route money) (s .rows)) ≡ sumOver amountOf (s .rows)
-  returned-amounts money = sum-map amountOf amountOf (afterReturn route money) (λ row. back-amount (waitsOn route money row) money row) (s .rows)
 
 module _ (ident : Ident) (route : Route) (money : Money) (s : Shipment) (b : Balanced s) where
   return-fair : (count : ℕ) → isPaired (s .stage) ≡ true
       → Fair (On ident (Return route money)) s (leave (Returned (waiting route money s) count) (withRows (map (afterReturn route money) (s .rows)) s))
   return-fair count is-paired =
       rows-fair (On ident (Return route money)) s b is-paired (map (afterReturn route money) (s .rows)) (Returned (waiting route money s) count)
-      (length-map (s .rows) (afterReturn route money))
-      (returned-amounts route s money)
+      (λ other. return-worth route money other (s .rows))
       (returned-held route s money)
       (λ other. refl)
       refl

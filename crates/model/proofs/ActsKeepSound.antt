@@ -11,11 +11,12 @@ use lib.ListN.{length, set, length-set, length-map}
 use Rattle.text.specs.Bytes.{between}
 use Rattle.text.proofs.Branches.{cond-either}
 use Rattle.money.specs.Money.{sumCap}
+use Rattle.fee.specs.declared.Terms.{Terms}
 use Rattle.epe.specs.Questions.{Question, AllYes, asked}
 use Rattle.epe.proofs.QuestionLaws.{asked-either}
 use Rattle.money.specs.declared.Money.{Money}
 use Rattle.money.specs.declared.Money.the-variants.{K, O}
-use Rattle.model.specs.Shipment.{Shipment, accepted, returned, isWaiting, isPaired, onlyIf, sumOver, isFaulty, need, needOncePaired, free, anyFaulty}
+use Rattle.model.specs.Shipment.{Shipment, accepted, returned, isWaiting, isPaired, onlyIf, sumOver, isFaulty, worth, need, needOncePaired, free, anyFaulty}
 use Rattle.model.specs.Calls.{Act, GoAhead, Pair, Close, OnOrder, Return}
 use Rattle.model.specs.Calls.{Answer, Refused, Done, IsPaired, Outcome, leave, refusing}
 use Rattle.model.specs.Calls.{withStage, withGoAhead, withAccepted, withReturned, withRows, withState}
@@ -32,8 +33,8 @@ use Rattle.model.specs.declared.Stage.the-variants.{Paired, Closed}
 use Rattle.model.specs.declared.State.{State}
 use Rattle.model.specs.declared.State.the-variants.{Open, Posted, Paid, Faulty, Undelivered, Withdrawn}
 use Rattle.model.proofs.Asking.{not-both}
-use Rattle.model.proofs.Sums.{sum-set, sum-map}
-use Rattle.model.proofs.Shipments.{waiting-unpaired, amountOf, same-need, both-covered, stateFor, fitting-state, in-range}
+use Rattle.model.proofs.Sums.{sum-set}
+use Rattle.model.proofs.Shipments.{waiting-unpaired, return-worth, both-covered, stateFor, fitting-state, in-range}
 use Rattle.model.proofs.SoundParts.{where-first, MoneyInOrder, InOrder}
 use Rattle.model.proofs.SoundParts.{row-fault, row-with-state, rows-later, rows-set, rows-map, row-at, faulty-set, faulty-map}
 
@@ -93,10 +94,11 @@ module _ (route : Route) (money : Money) (row : Row) where
   abbrev after-clearing : Row
   after-clearing = withState (cleared money (row .state)) row
 
-  return-sound : (stage : Stage) → isPaired stage ≡ true → rowSound stage row ≡ true → rowSound stage (afterReturn route money row) ≡ true
-  return-sound stage p h =
-      cond-either (λ (r : Row). rowSound stage r ≡ true) (waitsOn route money row) after-clearing row
-      (λ waits. row-with-state stage row h (cleared money (row .state)) p (cleared-fault money (row .state) ∙ row-fault stage row h))
+  return-sound : (terms : Terms) (stage : Stage) → isPaired stage ≡ true → rowSound terms stage row ≡ true
+      → rowSound terms stage (afterReturn route money row) ≡ true
+  return-sound terms stage p h =
+      cond-either (λ (r : Row). rowSound terms stage r ≡ true) (waitsOn route money row) after-clearing row
+      (λ waits. row-with-state terms stage row h (cleared money (row .state)) p (cleared-fault money (row .state) ∙ row-fault terms stage row h))
       (λ none. h)
 
   return-faulty : isFaulty (afterReturn route money row .state) ≡ isFaulty (row .state)
@@ -104,9 +106,6 @@ module _ (route : Route) (money : Money) (row : Row) where
       cond-either (λ (r : Row). isFaulty (r .state) ≡ isFaulty (row .state)) (waitsOn route money row) after-clearing row
       (λ waits. cleared-faulty money (row .state))
       (λ none. refl)
-
-  return-amount : afterReturn route money row .amount .0 ≡ row .amount .0
-  return-amount = cond-either (λ (r : Row). r .amount .0 ≡ row .amount .0) (waitsOn route money row) after-clearing row (λ waits. refl) (λ none. refl)
 
 module _ (s : Shipment) (h : InOrder s) where
   -- a transfer
@@ -122,12 +121,13 @@ module _ (s : Shipment) (h : InOrder s) where
     transfer-adds O = omega arith
 
     transfer-money : accepted money s + n ≤ sumCap → (other : Money) → MoneyInOrder other (withAccepted money n s)
+    unfolding need
     transfer-money e other =
         let m = h .moneys other in
         record {
           accepted-fits = transfer-fits money other n e;
           returned-fits = m .returned-fits;
-          covered = rw (same-need other s (withAccepted money n s) refl refl refl) (omega (arith, m .covered, transfer-adds other));
+          covered = omega (arith, m .covered, transfer-adds other);
           unreturned = m .unreturned;
         }
 
@@ -135,7 +135,7 @@ module _ (s : Shipment) (h : InOrder s) where
     transfer-kept e = record {
       in-order = record {
         name-in-form = h .name-in-form;
-        fee-fits = h .fee-fits;
+        terms-fit = h .terms-fit;
         an-order = h .an-order;
         rows-sound = h .rows-sound;
         go-ahead-with-faults = h .go-ahead-with-faults;
@@ -148,12 +148,13 @@ module _ (s : Shipment) (h : InOrder s) where
 
   -- a go-ahead
   go-ahead-money : (money : Money) → MoneyInOrder money (withGoAhead s)
+  unfolding need
   go-ahead-money money =
       let m = h .moneys money in
       record {
         accepted-fits = m .accepted-fits;
         returned-fits = m .returned-fits;
-        covered = rw (same-need money s (withGoAhead s) refl refl refl) (m .covered);
+        covered = m .covered;
         unreturned = m .unreturned;
       }
 
@@ -161,7 +162,7 @@ module _ (s : Shipment) (h : InOrder s) where
   go-ahead-kept faulty = record {
     in-order = record {
       name-in-form = h .name-in-form;
-      fee-fits = h .fee-fits;
+      terms-fit = h .terms-fit;
       an-order = h .an-order;
       rows-sound = h .rows-sound;
       go-ahead-with-faults = λ gone. faulty;
@@ -175,12 +176,13 @@ module _ (s : Shipment) (h : InOrder s) where
   -- a stage after Waiting, in which what is needed is covered
   module _ (stage : Stage) (waiting : isWaiting (s .stage) ≡ true) (over : isWaiting stage ≡ false) where
     stage-money : (money : Money) → onlyIf (isPaired stage) (need money s) ≤ accepted money s → MoneyInOrder money (withStage stage s)
+    unfolding need
     stage-money money e =
         let m = h .moneys money in
         record {
           accepted-fits = m .accepted-fits;
           returned-fits = m .returned-fits;
-          covered = rw (same-need money s (withStage stage s) refl refl refl) (omega (arith, m .unreturned waiting));
+          covered = omega (arith, m .unreturned waiting);
           unreturned = λ w. absurd (not-both (isWaiting stage) w over);
         }
 
@@ -192,9 +194,9 @@ module _ (s : Shipment) (h : InOrder s) where
         record {
           in-order = record {
             name-in-form = h .name-in-form;
-            fee-fits = h .fee-fits;
+            terms-fit = h .terms-fit;
             an-order = h .an-order;
-            rows-sound = rows-later (s .stage) stage (λ p. absurd (not-both (isPaired (s .stage)) p unpaired)) (s .rows) (h .rows-sound);
+            rows-sound = rows-later (s .agreed .terms) (s .stage) stage (λ p. absurd (not-both (isPaired (s .stage)) p unpaired)) (s .rows) (h .rows-sound);
             go-ahead-with-faults = h .go-ahead-with-faults;
             faults-with-go-ahead = go-ahead;
             moneys = λ money. stage-money money (covers money);
@@ -203,23 +205,24 @@ module _ (s : Shipment) (h : InOrder s) where
           as-many = refl;
         }
 
-  -- new rows of a Paired shipment, as many and with the same amounts
-  module _ (rows : List Row) (count : length rows ≡ length (s .rows)) (sums : sumOver amountOf rows ≡ sumOver amountOf (s .rows)) where
+  -- new rows of a Paired shipment, as many and of the same worth
+  module _ (rows : List Row) (count : length rows ≡ length (s .rows)) (sums : (money : Money) → sumOver (worth money) rows ≡ sumOver (worth money) (s .rows)) where
     rows-money : (money : Money) → MoneyInOrder money (withRows rows s)
+    unfolding need
     rows-money money =
         let m = h .moneys money in
         record {
           accepted-fits = m .accepted-fits;
           returned-fits = m .returned-fits;
-          covered = rw (same-need money s (withRows rows s) refl count sums) (m .covered);
+          covered = rw (sums money) (m .covered);
           unreturned = m .unreturned;
         }
 
-    rows-kept : (answer : Answer) → rowsSound (s .stage) rows ≡ true → anyFaulty rows ≡ anyFaulty (s .rows) → Kept s (leave answer (withRows rows s))
+    rows-kept : (answer : Answer) → rowsSound (s .agreed .terms) (s .stage) rows ≡ true → anyFaulty rows ≡ anyFaulty (s .rows) → Kept s (leave answer (withRows rows s))
     rows-kept answer sound faults = record {
       in-order = record {
         name-in-form = h .name-in-form;
-        fee-fits = h .fee-fits;
+        terms-fit = h .terms-fit;
         an-order = omega (arith, h .an-order);
         rows-sound = sound;
         go-ahead-with-faults = λ gone. faults ∙ h .go-ahead-with-faults gone;
@@ -236,17 +239,17 @@ module _ (s : Shipment) (h : InOrder s) where
     deed-done = withState (becomes deed) (orderAt number s)
 
     order-kept : isPaired (s .stage) ≡ true → between 1 (length (s .rows)) number ≡ true → fits deed (orderAt number s .state) ≡ true
-        → Kept s (leave (says deed s (orderAt number s)) (withRows (set (s .rows) (number - 1) deed-done) s))
+        → Kept s (leave (says deed (orderAt number s)) (withRows (set (s .rows) (number - 1) deed-done) s))
     order-kept p within fit =
         let row = orderAt number s in
         let there = in-range (length (s .rows)) number within in
-        let was = row-at (s .stage) (s .rows) (number - 1) there (h .rows-sound) in
+        let was = row-at (s .agreed .terms) (s .stage) (s .rows) (number - 1) there (h .rows-sound) in
         rows-kept (set (s .rows) (number - 1) deed-done)
         (length-set (s .rows) (number - 1) deed-done)
-        (omega (arith, sum-set amountOf (s .rows) (number - 1) deed-done noOrder there))
-        (says deed s row)
-        (rows-set (s .stage) (s .rows) (number - 1) deed-done (h .rows-sound)
-        (row-with-state (s .stage) row was (becomes deed) p (becomes-in-range deed)))
+        (λ money. omega (arith, sum-set (worth money) (s .rows) (number - 1) deed-done noOrder there))
+        (says deed row)
+        (rows-set (s .agreed .terms) (s .stage) (s .rows) (number - 1) deed-done (h .rows-sound)
+        (row-with-state (s .agreed .terms) (s .stage) row was (becomes deed) p (becomes-in-range deed)))
         (faulty-set (s .rows) (number - 1) deed-done (becomes-unfaulty deed ∙ sym (fitting-unfaulty deed (row .state) fit)))
 
   -- a return of what waits
@@ -256,9 +259,9 @@ module _ (s : Shipment) (h : InOrder s) where
       let after = afterReturn route money in
       rows-kept (map after (s .rows))
       (length-map (s .rows) after)
-      (sum-map amountOf amountOf after (return-amount route money) (s .rows))
+      (λ other. return-worth route money other (s .rows))
       answer
-      (rows-map (s .stage) after (λ row. return-sound route money row (s .stage) p) (s .rows) (h .rows-sound))
+      (rows-map (s .agreed .terms) (s .stage) after (λ row. return-sound route money row (s .agreed .terms) (s .stage) p) (s .rows) (h .rows-sound))
       (faulty-map after (return-faulty route money) (s .rows))
 
   -- a return of the surplus
@@ -271,13 +274,14 @@ module _ (s : Shipment) (h : InOrder s) where
 
   module _ (money : Money) (over : isWaiting (s .stage) ≡ false) where
     surplus-money : (other : Money) → MoneyInOrder other (withReturned money (free money s) s)
+    unfolding need
     surplus-money other =
         let m = h .moneys other in
         let covered = surplus-covered money other in
         record {
           accepted-fits = m .accepted-fits;
           returned-fits = omega (arith, m .accepted-fits, covered);
-          covered = rw (same-need other s (withReturned money (free money s) s) refl refl refl) covered;
+          covered = covered;
           unreturned = λ w. absurd (not-both (isWaiting (s .stage)) w over);
         }
 
@@ -285,7 +289,7 @@ module _ (s : Shipment) (h : InOrder s) where
     surplus-kept answer = record {
       in-order = record {
         name-in-form = h .name-in-form;
-        fee-fits = h .fee-fits;
+        terms-fit = h .terms-fit;
         an-order = h .an-order;
         rows-sound = h .rows-sound;
         go-ahead-with-faults = h .go-ahead-with-faults;

@@ -9,6 +9,7 @@ use Rattle.money.specs.Money.{isTransfer}
 use Rattle.epe.specs.Questions.{_elseNo_}
 use Rattle.epe.specs.Name.{nameOf, titleQuestions, titleOf}
 use Rattle.epe.specs.Opening.{openingQuestions}
+use Rattle.epe.specs.Profile.{profileQuestions}
 use Rattle.contents.specs.Contents.{orders, faultyCount}
 use Rattle.epe.specs.declared.profile.Profile.{Profile}
 use Rattle.epe.proofs.QuestionLaws.{asked-either, yes-behind}
@@ -27,10 +28,10 @@ pub intake-either : (P : Step → Type 0) (profile : Profile) (name file : List 
     → (isUnknown (nameOf name .ident) book ≡ true
     → P (stay (Accepted (length (orders file)) (faultyCount (orders file))) (book ++ (entered profile (nameOf name) (orders file) ∷ []))))
     → P (step book (Intake profile name file))
-unfolding step takenIn intakeQuestions
+unfolding step takenIn intakeQuestions profileQuestions
 intake-either P profile name file book refused accepted =
     asked-either P (intakeQuestions profile name file book) (refusingIn book) _ refused
-    (λ yes. accepted (yes-behind (openingQuestions name file) _ (yes .1) .0))
+    (λ yes. accepted (yes-behind (openingQuestions name file) _ (yes .1 .1) .0))
 
 -- a transfer is refused, or is made to the first shipment of its title's name
 pub transfer-either : (P : Step → Type 0) (title : List ℕ) (amount : ℕ) (book : Book)

@@ -160,7 +160,7 @@ module _ (ident : Ident) (act : Act) (s : Shipment) where
 
   -- the whole worth of each order whose money leaves
   abbrev pub leftWith : Money → Outcome → ℕ
-  leftWith money o = below (length (s .rows)) (λ j. onlyIf (leavesAt money j o) (worth money s (orderByIndex j (some s))))
+  leftWith money o = below (length (s .rows)) (λ j. onlyIf (leavesAt money j o) (worth money (orderByIndex j (some s))))
 
   pub record Leaves (o : Outcome) : Type 0 where
     pub named : o .shipment .agreed .name ≡ s .agreed .name
@@ -180,8 +180,8 @@ module _ (ident : Ident) (act : Act) (s : Shipment) where
     where
       none-with : (money : Money) → leftWith money o ≡ 0
       none-with money =
-          below-none (length (s .rows)) (λ j. onlyIf (leavesAt money j o) (worth money s (orderByIndex j (some s))))
-          (λ j. ap (λ t. onlyIf t (worth money s (orderByIndex j (some s)))) (stays money j))
+          below-none (length (s .rows)) (λ j. onlyIf (leavesAt money j o) (worth money (orderByIndex j (some s))))
+          (λ j. ap (λ t. onlyIf t (worth money (orderByIndex j (some s)))) (stays money j))
 
   refusal : (number : ℕ) → Leaves (leave (Refused number) s)
   refusal number = quiet (leave (Refused number) s) refl refl (λ money j. refl) (λ money. refl)
@@ -208,9 +208,9 @@ deed-gone MarkUndelivered O state is = rw (posted-is state is)
 deed-gone Withdraw K state is = rw (open-is state is)
 deed-gone Withdraw O state is = rw (open-is state is)
 
-module _ (ident : Ident) (number : ℕ) (s : Shipment) (row : Row) where
+module _ (ident : Ident) (number : ℕ) (row : Row) where
   deed-leaves : (deed : Deed) (money : Money) (j : ℕ) (before after : Row)
-      → moved (On ident (OnOrder deed number)) (says deed s row) .takesFrom money j before after ≡ (eqb number (j + 1) && takesOut deed money)
+      → moved (On ident (OnOrder deed number)) (says deed row) .takesFrom money j before after ≡ (eqb number (j + 1) && takesOut deed money)
   deed-leaves Post K j before after = sym (and-false (eqb number (j + 1)))
   deed-leaves Post O j before after = sym (and-true (eqb number (j + 1)))
   deed-leaves Pay K j before after = sym (and-true (eqb number (j + 1)))
@@ -219,7 +219,7 @@ module _ (ident : Ident) (number : ℕ) (s : Shipment) (row : Row) where
   deed-leaves Withdraw money j before after = sym (and-false (eqb number (j + 1)))
 
   deed-left : (deed : Deed) (money : Money)
-      → moved (On ident (OnOrder deed number)) (says deed s row) .goesOut money ≡ onlyIf (takesOut deed money) (worth money s row)
+      → moved (On ident (OnOrder deed number)) (says deed row) .goesOut money ≡ onlyIf (takesOut deed money) (worth money row)
   deed-left Post K = refl
   deed-left Post O = refl
   deed-left Pay K = refl
@@ -227,7 +227,7 @@ module _ (ident : Ident) (number : ℕ) (s : Shipment) (row : Row) where
   deed-left MarkUndelivered money = refl
   deed-left Withdraw money = refl
 
-  deed-surplus : (deed : Deed) (money : Money) → moved (On ident (OnOrder deed number)) (says deed s row) .surplus money ≡ 0
+  deed-surplus : (deed : Deed) (money : Money) → moved (On ident (OnOrder deed number)) (says deed row) .surplus money ≡ 0
   deed-surplus Post money = refl
   deed-surplus Pay money = refl
   deed-surplus MarkUndelivered money = refl
@@ -239,7 +239,7 @@ module _ (ident : Ident) (deed : Deed) (number : ℕ) (s : Shipment)
   call = On ident (OnOrder deed number)
 
   abbrev done : Outcome
-  done = leave (says deed s (orderAt number s)) (withRows (set (s .rows) (number - 1) (withState (becomes deed) (orderAt number s))) s)
+  done = leave (says deed (orderAt number s)) (withRows (set (s .rows) (number - 1) (withState (becomes deed) (orderAt number s))) s)
 
   first : 1 ≤ number
   first = leb-true 1 number (and-left (leb 1 number) (leb number (length (s .rows))) numbered)
@@ -254,7 +254,7 @@ module _ (ident : Ident) (deed : Deed) (number : ℕ) (s : Shipment)
   elsewhere j apart = ne-eqb number (j + 1) (λ is. apart (omega (arith, first)))
 
   deed-leaves-at : (money : Money) (j : ℕ) → leavesAt ident (OnOrder deed number) s money j done ≡ (eqb number (j + 1) && takesOut deed money)
-  deed-leaves-at money j = deed-leaves ident number s (orderAt number s) deed money j (orderByIndex j (some s)) (orderByIndex j (some (done .shipment)))
+  deed-leaves-at money j = deed-leaves ident number (orderAt number s) deed money j (orderByIndex j (some s)) (orderByIndex j (some (done .shipment)))
 
   deed-once : (money : Money) (j : ℕ) → goneAt money j s + onlyIf (leavesAt ident (OnOrder deed number) s money j done) 1 ≤ goneAt money j (done .shipment)
   deed-once money j = rw (deed-leaves-at money j) (go (eqb number (j + 1)) refl)
@@ -271,13 +271,13 @@ module _ (ident : Ident) (deed : Deed) (number : ℕ) (s : Shipment)
   -- of the places below the count, the one that is named
   module _ (money : Money) where
     abbrev ifTaken : Bool → ℕ → ℕ
-    ifTaken t j = onlyIf (t && takesOut deed money) (worth money s (orderByIndex j (some s)))
+    ifTaken t j = onlyIf (t && takesOut deed money) (worth money (orderByIndex j (some s)))
 
-    deed-place : leftWith ident (OnOrder deed number) s money done ≡ onlyIf (takesOut deed money) (worth money s (orderAt number s))
+    deed-place : leftWith ident (OnOrder deed number) s money done ≡ onlyIf (takesOut deed money) (worth money (orderAt number s))
     deed-place =
-        below-same (length (s .rows)) (λ j. onlyIf (leavesAt ident (OnOrder deed number) s money j done) (worth money s (orderByIndex j (some s))))
+        below-same (length (s .rows)) (λ j. onlyIf (leavesAt ident (OnOrder deed number) s money j done) (worth money (orderByIndex j (some s))))
         (λ j. ifTaken (eqb number (j + 1)) j)
-        (λ j. ap (λ t. onlyIf t (worth money s (orderByIndex j (some s)))) (deed-leaves-at money j))
+        (λ j. ap (λ t. onlyIf t (worth money (orderByIndex j (some s)))) (deed-leaves-at money j))
         ∙ below-one (length (s .rows)) (number - 1) (λ j. ifTaken (eqb number (j + 1)) j) inside
         (λ j apart. ap (λ t. ifTaken t j) (elsewhere j apart))
         ∙ ap (λ t. ifTaken t (number - 1)) (eq-eqb number (number - 1 + 1) (omega (arith, first)))
@@ -286,7 +286,7 @@ module _ (ident : Ident) (deed : Deed) (number : ℕ) (s : Shipment)
       → moved call (done .answer) .goesOut money ≡ leftWith ident (OnOrder deed number) s money done + moved call (done .answer) .surplus money
   deed-entire money =
       let row = orderAt number s in
-      omega (arith, deed-left ident number s row deed money, deed-surplus ident number s row deed money, deed-place money)
+      omega (arith, deed-left ident number row deed money, deed-surplus ident number row deed money, deed-place money)
 
   deed-done : Leaves ident (OnOrder deed number) s done
   deed-done = record { named = refl; once = deed-once; entire = deed-entire }
@@ -336,7 +336,7 @@ module _ (ident : Ident) (route : Route) (other : Money) (s : Shipment) where
   unfolding waiting
   back-left money =
       either-way (isMoney money other)
-      (λ same. rw (same-money money other same) (ap (λ t. onlyIf t (waiting route other s)) (money-itself other) ∙ back-sum (worth other s)))
+      (λ same. rw (same-money money other same) (ap (λ t. onlyIf t (waiting route other s)) (money-itself other) ∙ back-sum (worth other)))
       (λ apart. rw apart (sym (below-none (length (s .rows)) (λ j. 0) (λ j. refl))))
 
   back-leaving : ((n : ℕ) → surplusOf route n ≡ 0) → Leaves ident (Return route other) s back
@@ -351,8 +351,8 @@ module _ (ident : Ident) (route : Route) (other : Money) (s : Shipment) where
   back-empties = record {
     counted = λ n said. some-counted (waitingOrders route other s) n said ∙ back-sum (λ row. 1);
     emptied = λ accepted.
-        sum-map (λ (row : Row). onlyIf (waitsOn route other row) (worth other s row)) (λ row. 0) (afterReturn route other)
-        (λ row. ap (λ t. onlyIf t (worth other s (afterReturn route other row))) (return-empties route other row)) (s .rows)
+        sum-map (λ (row : Row). onlyIf (waitsOn route other row) (worth other row)) (λ row. 0) (afterReturn route other)
+        (λ row. ap (λ t. onlyIf t (worth other (afterReturn route other row))) (return-empties route other row)) (s .rows)
         ∙ sum-none (λ row. 0) (s .rows) (λ row. refl);
   }
 

@@ -1,4 +1,5 @@
 pub mod AboutZs1
+pub mod AboutRated
 pub mod Asking
 pub mod Sums
 pub mod Shipments
@@ -8,7 +9,9 @@ pub mod ActsKeepSound
 pub mod ActsConserve
 pub mod Leaving
 pub mod Finding
+pub mod StatedKind
 pub mod StaysSound
+pub mod Divided
 pub mod FoundSound
 pub mod StepsConserve
 pub mod Conserved

@@ -1,25 +1,27 @@
--- One shipment: its stages, the states that its deeds find, and its need.
+-- One shipment: its stages, the states that its deeds find, what its orders are worth after a return, and its needs once covered.
 -- Assumes nothing.
-use mathlib.Core.Path.{_≡_, refl, ap, _∙_}
+use mathlib.Core.Path.{_≡_, refl}
 use mathlib.Core.Bool.{Bool, true, false, _&&_, false≢true}
+use mathlib.Core.List.{List, map}
 use Prim.Native.Nat.{ℕ, _-_, _≤_, _<_}
 use native.Mathlib.Omega.{arith}
 use borrow.Author.Tests.{leb-true}
 use lib.Dec.{leb}
-use lib.ListN.{length}
 use Rattle.text.specs.Bytes.{between}
-use Rattle.text.proofs.Branches.{and-left, and-right}
+use Rattle.text.proofs.Branches.{and-left, and-right, cond-either}
 use Rattle.money.specs.declared.Money.{Money}
 use Rattle.money.specs.declared.Money.the-variants.{K, O}
-use Rattle.model.specs.Shipment.{Shipment, accepted, isWaiting, isPaired, onlyIf, sumOver, isOpen, isPosted, need, needOncePaired}
-use Rattle.model.specs.Calls.{fits}
+use Rattle.model.specs.Shipment.{Shipment, accepted, isWaiting, isPaired, onlyIf, sumOver, isOpen, isPosted, worth, need}
+use Rattle.model.specs.Calls.{fits, withState, waitsOn, cleared, afterReturn}
 use Rattle.model.specs.declared.Deed.{Deed}
 use Rattle.model.specs.declared.Deed.the-variants.{Post, Pay, MarkUndelivered, Withdraw}
+use Rattle.model.specs.declared.Route.{Route}
 use Rattle.model.specs.declared.Row.{Row}
 use Rattle.model.specs.declared.Stage.{Stage}
 use Rattle.model.specs.declared.Stage.the-variants.{Waiting, Paired, Closed}
 use Rattle.model.specs.declared.State.{State}
 use Rattle.model.specs.declared.State.the-variants.{Open, Posted, Paid, Faulty, Undelivered, Withdrawn}
+use Rattle.model.proofs.Sums.{sum-map}
 
 -- tests and stages
 pub only-if-true : (t : Bool) (n : ℕ) → t ≡ true → onlyIf t n ≡ n
@@ -33,22 +35,13 @@ waiting-unpaired Waiting e = refl
 waiting-unpaired Paired e = absurd (false≢true e)
 waiting-unpaired Closed e = refl
 
--- the need goes by the fee, the number of orders and the sum of their amounts
-abbrev pub amountOf : Row → ℕ
-amountOf row = row .amount .0
-
-module _ (money : Money) (s t : Shipment) where
-  pub same-need : t .agreed .fee ≡ s .agreed .fee → length (t .rows) ≡ length (s .rows)
-      → sumOver amountOf (t .rows) ≡ sumOver amountOf (s .rows) → need money t ≡ need money s
-  unfolding need
-  same-need fees counts sums = by money
-    where
-      by : (money : Money) → need money t ≡ need money s
-      by K = sums
-      by O = rw (fees, counts)
-
-  pub same-need-once : t .stage ≡ s .stage → need money t ≡ need money s → needOncePaired money t ≡ needOncePaired money s
-  same-need-once stages needs = ap (λ stage. onlyIf (isPaired stage) (need money t)) stages ∙ ap (onlyIf (isPaired (s .stage))) needs
+-- a return leaves what the orders are worth
+pub return-worth : (route : Route) (money other : Money) (rows : List Row) → sumOver (worth other) (map (afterReturn route money) rows) ≡ sumOver (worth other) rows
+return-worth route money other =
+    sum-map (worth other) (worth other) (afterReturn route money)
+    (λ row.
+    cond-either (λ (r : Row). worth other r ≡ worth other row) (waitsOn route money row) (withState (cleared money (row .state)) row) row
+    (λ waits. refl) (λ none. refl))
 
 -- both needs covered
 pub both-covered : (s : Shipment) → (leb (need K s) (accepted K s) && leb (need O s) (accepted O s)) ≡ true → (money : Money) → need money s ≤ accepted money s

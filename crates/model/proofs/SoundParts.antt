@@ -12,6 +12,8 @@ use Rattle.text.proofs.Branches.{and-left, and-right, both-yes}
 use Rattle.money.specs.Money.{orderCap, sumCap}
 use Rattle.money.specs.declared.Money.{Money}
 use Rattle.money.specs.declared.Money.the-variants.{K, O}
+use Rattle.fee.specs.Fee.{rateCap, TermsFit}
+use Rattle.fee.specs.declared.Terms.{Terms}
 use Rattle.epe.specs.Name.{nameInForm}
 use Rattle.model.specs.Shipment.{Shipment, accepted, returned, isWaiting, isPaired, isFaulty, needOncePaired, anyFaulty}
 use Rattle.model.specs.Calls.{withState, noOrder}
@@ -41,9 +43,9 @@ pub record MoneyInOrder (money : Money) (s : Shipment) : Type 0 where
 
 pub record InOrder (s : Shipment) : Type 0 where
   pub name-in-form : nameInForm (s .agreed .name) ≡ true
-  pub fee-fits : s .agreed .fee ≤ orderCap
+  pub terms-fit : TermsFit (s .agreed .terms)
   pub an-order : 1 ≤ length (s .rows)
-  pub rows-sound : rowsSound (s .stage) (s .rows) ≡ true
+  pub rows-sound : rowsSound (s .agreed .terms) (s .stage) (s .rows) ≡ true
   pub go-ahead-with-faults : s .goAhead ≡ true → anyFaulty (s .rows) ≡ true
   pub faults-with-go-ahead : isPaired (s .stage) ≡ true → anyFaulty (s .rows) ≡ true → s .goAhead ≡ true
   pub moneys : (money : Money) → MoneyInOrder money s
@@ -78,7 +80,7 @@ in-order s h =
     let paired = isPaired (s .stage) in
     record {
       name-in-form = search halves;
-      fee-fits = leb-true (s .agreed .fee) orderCap (search halves);
+      terms-fit = (leb-true (s .agreed .terms .flat .0) orderCap (search halves), leb-true (s .agreed .terms .rate .0) rateCap (search halves));
       an-order = leb-true 1 (length (s .rows)) (search halves);
       rows-sound = search halves;
       go-ahead-with-faults = where-first (s .goAhead) faulty (search halves);
@@ -96,7 +98,8 @@ shipment-sound s h =
     let faulty = anyFaulty (s .rows) in
     let paired = isPaired (s .stage) in
     both-yes _ _ (h .name-in-form)
-    (both-yes _ _ (le-leb (s .agreed .fee) orderCap (h .fee-fits))
+    (both-yes _ _
+    (both-yes _ _ (le-leb (s .agreed .terms .flat .0) orderCap (h .terms-fit .0)) (le-leb (s .agreed .terms .rate .0) rateCap (h .terms-fit .1)))
     (both-yes _ _ (le-leb 1 (length (s .rows)) (h .an-order))
     (both-yes _ _ (h .rows-sound)
     (both-yes _ _ (holds-where-first (s .goAhead) faulty (h .go-ahead-with-faults))
@@ -110,46 +113,46 @@ or-later true b c f h = rw (f refl)
 or-later false true c f h = refl
 or-later false false c f h = h
 
-module _ (stage : Stage) (row : Row) (h : rowSound stage row ≡ true) where
+module _ (terms : Terms) (stage : Stage) (row : Row) (h : rowSound terms stage row ≡ true) where
   pub row-fault : faultInRange (row .state) ≡ true
   unfolding rowSound
   row-fault = search halves
 
-  row-later : (later : Stage) → (isPaired stage ≡ true → isPaired later ≡ true) → rowSound later row ≡ true
+  row-later : (later : Stage) → (isPaired stage ≡ true → isPaired later ≡ true) → rowSound terms later row ≡ true
   unfolding rowSound
   row-later later f =
       let now : (isPaired stage || beforePairing (row .state)) ≡ true = search halves in
       let then = or-later (isPaired stage) (isPaired later) (beforePairing (row .state)) f now in
       search (both-yes, halves)
 
-  pub row-with-state : (state : State) → isPaired stage ≡ true → faultInRange state ≡ true → rowSound stage (withState state row) ≡ true
+  pub row-with-state : (state : State) → isPaired stage ≡ true → faultInRange state ≡ true → rowSound terms stage (withState state row) ≡ true
   unfolding rowSound
   row-with-state state p f =
       let then : (isPaired stage || beforePairing state) ≡ true = rw p in
       search (both-yes, halves)
 
 -- the orders of a shipment, one by one
-module _ (stage : Stage) where
-  pub rows-later : (later : Stage) → (isPaired stage ≡ true → isPaired later ≡ true) → (rows : List Row) → rowsSound stage rows ≡ true
-      → rowsSound later rows ≡ true
+module _ (terms : Terms) (stage : Stage) where
+  pub rows-later : (later : Stage) → (isPaired stage ≡ true → isPaired later ≡ true) → (rows : List Row) → rowsSound terms stage rows ≡ true
+      → rowsSound terms later rows ≡ true
   unfolding rowsSound
   rows-later later f [] h = refl
-  rows-later later f (row ∷ rows) h = both-yes _ _ (row-later stage row (search halves) later f) (rows-later later f rows (search halves))
+  rows-later later f (row ∷ rows) h = both-yes _ _ (row-later terms stage row (search halves) later f) (rows-later later f rows (search halves))
 
-  pub rows-set : (rows : List Row) (i : ℕ) (new : Row) → rowsSound stage rows ≡ true → rowSound stage new ≡ true
-      → rowsSound stage (set rows i new) ≡ true
+  pub rows-set : (rows : List Row) (i : ℕ) (new : Row) → rowsSound terms stage rows ≡ true → rowSound terms stage new ≡ true
+      → rowsSound terms stage (set rows i new) ≡ true
   unfolding rowsSound
   rows-set [] i new h k = refl
   rows-set (row ∷ rows) zero new h k = search (both-yes, halves)
-  rows-set (row ∷ rows) (suc i) new h k = both-yes (rowSound stage row) _ (search halves) (rows-set rows i new (search halves) k)
+  rows-set (row ∷ rows) (suc i) new h k = both-yes (rowSound terms stage row) _ (search halves) (rows-set rows i new (search halves) k)
 
-  pub rows-map : (f : Row → Row) → ((row : Row) → rowSound stage row ≡ true → rowSound stage (f row) ≡ true)
-      → (rows : List Row) → rowsSound stage rows ≡ true → rowsSound stage (map f rows) ≡ true
+  pub rows-map : (f : Row → Row) → ((row : Row) → rowSound terms stage row ≡ true → rowSound terms stage (f row) ≡ true)
+      → (rows : List Row) → rowsSound terms stage rows ≡ true → rowsSound terms stage (map f rows) ≡ true
   unfolding rowsSound
   rows-map f k [] h = refl
   rows-map f k (row ∷ rows) h = both-yes _ _ (k row (search halves)) (rows-map f k rows (search halves))
 
-  pub row-at : (rows : List Row) (i : ℕ) → i < length rows → rowsSound stage rows ≡ true → rowSound stage (getD rows i noOrder) ≡ true
+  pub row-at : (rows : List Row) (i : ℕ) → i < length rows → rowsSound terms stage rows ≡ true → rowSound terms stage (getD rows i noOrder) ≡ true
   unfolding rowsSound
   row-at [] i l h = absurd (omega arith)
   row-at (row ∷ rows) zero l h = search halves

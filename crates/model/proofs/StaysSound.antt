@@ -3,24 +3,26 @@
 use mathlib.Core.Path.{_≡_, refl, _∙_, ap}
 use mathlib.Core.Bool.{Bool, true, false, cond, _&&_, false≢true}
 use mathlib.Core.List.{List, [], _∷_, _++_, map}
-use Prim.Native.Nat.{ℕ, zero, suc, _+_, _≤_, _<_}
+use Prim.Native.Nat.{ℕ, suc, _+_, _≤_, _<_}
 use native.Mathlib.Omega.{arith}
 use borrow.Author.Tests.{leb-true, le-leb, ltb-true, eqb-false}
 use lib.Dec.{leb, ltb, eqb}
-use lib.ListN.{length, getD, take, length-append, length-map}
+use lib.ListN.{length, take, length-append, length-map}
 use Rattle.text.specs.Bytes.{between}
 use Rattle.text.proofs.Branches.{both-yes, cond-either}
-use Rattle.money.specs.Money.{fee, orderCap, WithinOrder}
-use Rattle.money.specs.declared.Fee.{Fee}
+use Rattle.money.specs.Money.{orderCap, WithinOrder}
 use Rattle.money.specs.declared.Money.{Money}
 use Rattle.money.specs.declared.Money.the-variants.{K, O}
+use Rattle.fee.specs.Fee.{feeOf}
+use Rattle.fee.specs.declared.Terms.{Terms}
+use Rattle.fee.proofs.Division.{divides-alone}
 use Rattle.epe.specs.Ident.{sameIdent}
 use Rattle.epe.specs.Name.{nameOf, nameQuestions, nameInForm, titleOf}
 use Rattle.epe.specs.Opening.{fileQuestions, fixedQuestions, repeatedQuestions, openingQuestions, opening}
 use Rattle.epe.specs.File.{header}
 use Rattle.contents.specs.Contents.{contentsQuestions, contents, orders}
-use Rattle.contents.specs.Accepted.{OrderInRange, EachInRange}
-use Rattle.epe.specs.Profile.{profileFits, feesFit}
+use Rattle.contents.specs.Accepted.{OrderInRange, EachInRange, EachCharged}
+use Rattle.epe.specs.Profile.{profileQuestions, Fitting, termsFor}
 use Rattle.epe.specs.declared.ident.Ident.{Ident}
 use Rattle.epe.specs.declared.name.Name.{Name}
 use Rattle.epe.specs.declared.profile.Profile.{Profile}
@@ -28,10 +30,11 @@ use Rattle.contents.specs.declared.record.Order.{Order}
 use Rattle.epe.specs.declared.verdict.Verdict.the-variants.{Passed}
 use Rattle.contents.proofs.AcceptedAsStated.{accepted-as-stated}
 use Rattle.epe.proofs.NameLaws.{parts-in-form}
+use Rattle.epe.proofs.ProfileLaws.{terms-fit}
 use Rattle.epe.proofs.QuestionLaws.{asked-either, all-yes, all-yes-passed, yes-before, yes-behind}
 use Rattle.model.specs.Shipment.{mostShipments, mostRows, Shipment}
 use Rattle.model.specs.Calls.{Call, Intake, Transfer, On, Refused, Outcome, transferred, acted}
-use Rattle.model.specs.Book.{feeFor, Book, Step, stay, refusingIn, onFirst, isCalled, isUnknown, rowsIn}
+use Rattle.model.specs.Book.{Book, Step, stay, refusingIn, onFirst, isCalled, isUnknown, rowsIn}
 use Rattle.model.specs.Book.{enteredRow, entered, intakeQuestions, takenIn, step}
 use Rattle.model.specs.Sound.{faultInRange, beforePairing, rowSound, rowsSound, shipmentSound, shipmentsSound, sound, StaysSound, AlwaysSound}
 use Rattle.model.specs.Demand.{run}
@@ -40,6 +43,7 @@ use Rattle.model.specs.declared.State.{State}
 use Rattle.model.specs.declared.State.the-variants.{Open, Faulty}
 use Rattle.model.proofs.Asking.{transfer-either}
 use Rattle.model.proofs.Known.{same-back, unknown-first, unknown-rest, append-unknown}
+use Rattle.model.proofs.StatedKind.{stated-terms}
 use Rattle.model.proofs.SoundParts.{halves, MoneyInOrder, InOrder, in-order, shipment-sound}
 use Rattle.model.proofs.ActsKeepSound.{Kept, transferred-kept, acted-kept}
 
@@ -121,17 +125,6 @@ opened-in-form name file h =
     let named = yes-behind (fileQuestions file) (nameQuestions name ++ behind) (all-yes (openingQuestions name file) h) in
     parts-in-form name (all-yes-passed (nameQuestions name) (yes-before (nameQuestions name) behind named))
 
--- a fee of a profile that fits
-each-fits : (fees : List Fee) (kind : ℕ) → feesFit fees ≡ true → WithinOrder (getD fees kind (fee 0) .0)
-unfolding feesFit
-each-fits [] kind h = omega arith
-each-fits (one ∷ fees) zero h = leb-true (one .0) orderCap (search halves)
-each-fits (one ∷ fees) (suc kind) h = each-fits fees kind (search halves)
-
-pub fee-fits : (profile : Profile) (kind : ℕ) → profileFits profile ≡ true → WithinOrder (feeFor profile kind)
-unfolding profileFits
-fee-fits profile kind h = each-fits (profile .fees) kind (search halves)
-
 -- the orders of an accepted file enter sound
 in-between : (low high n : ℕ) → low ≤ n → n ≤ high → between low high n ≡ true
 in-between low high n l h = both-yes _ _ (le-leb low n l) (le-leb n high h)
@@ -139,33 +132,37 @@ in-between low high n l h = both-yes _ _ (le-leb low n l) (le-leb n high h)
 not-zero : (n : ℕ) → (n ≡ 0 → ⊥) → 1 ≤ n
 not-zero n f = omega arith
 
-entered-row : (order : Order) → OrderInRange order → rowSound Waiting (enteredRow order) ≡ true
-unfolding rowSound
-entered-row order h =
-    let fault = order .fault in
-    both-yes _ _ (in-between 1 orderCap (order .amount .0) (h .from-one) (h .to-the-cap))
-    (cond-either (λ (state : State). (faultInRange state && beforePairing state) ≡ true) (eqb fault 0) Open (Faulty fault true true)
-    (λ none. refl)
-    (λ some. both-yes _ true (in-between 1 10 fault (not-zero fault (eqb-false fault 0 some)) (h .fault-known)) refl))
+module _ (terms : Terms) where
+  entered-row : (order : Order) → OrderInRange order → WithinOrder (feeOf terms (order .amount .0)) → rowSound terms Waiting (enteredRow terms order) ≡ true
+  unfolding rowSound
+  entered-row order h charged =
+      let fault = order .fault in
+      let grosze = order .amount .0 in
+      both-yes _ _
+      (both-yes _ _ (in-between 1 orderCap grosze (h .from-one) (h .to-the-cap))
+      (both-yes _ _ (le-leb (feeOf terms grosze) orderCap charged) (divides-alone terms grosze .holds)))
+      (cond-either (λ (state : State). (faultInRange state && beforePairing state) ≡ true) (eqb fault 0) Open (Faulty fault true true)
+      (λ none. refl)
+      (λ some. both-yes _ true (in-between 1 10 fault (not-zero fault (eqb-false fault 0 some)) (h .fault-known)) refl))
 
-entered-rows : (orders : List Order) → EachInRange orders → rowsSound Waiting (map enteredRow orders) ≡ true
-unfolding rowsSound
-entered-rows [] h = refl
-entered-rows (order ∷ orders) h = both-yes _ _ (entered-row order (h .0)) (entered-rows orders (h .1))
+  entered-rows : (orders : List Order) → EachInRange orders → EachCharged terms orders → rowsSound terms Waiting (map (enteredRow terms) orders) ≡ true
+  unfolding rowsSound
+  entered-rows [] h charged = refl
+  entered-rows (order ∷ orders) h charged = both-yes _ _ (entered-row order (h .0) (charged .0)) (entered-rows orders (h .1) (charged .1))
 
 entered-money : (money : Money) (profile : Profile) (name : Name) (orders : List Order) → MoneyInOrder money (entered profile name orders)
 unfolding entered
 entered-money K profile name orders = record { accepted-fits = omega arith; returned-fits = omega arith; covered = omega arith; unreturned = λ waiting. refl }
 entered-money O profile name orders = record { accepted-fits = omega arith; returned-fits = omega arith; covered = omega arith; unreturned = λ waiting. refl }
 
-entered-in-order : (profile : Profile) (name : Name) (orders : List Order) → profileFits profile ≡ true → nameInForm name ≡ true → 1 ≤ length orders
-    → EachInRange orders → InOrder (entered profile name orders)
+entered-in-order : (profile : Profile) (name : Name) (orders : List Order) → Fitting profile → nameInForm name ≡ true → 1 ≤ length orders
+    → EachInRange orders → EachCharged (termsFor profile (name .kind)) orders → InOrder (entered profile name orders)
 unfolding entered
-entered-in-order profile name orders fits formed some ranged = record {
+entered-in-order profile name orders fits formed some ranged charged = record {
   name-in-form = formed;
-  fee-fits = fee-fits profile (name .kind) fits;
-  an-order = omega (arith, length-map orders enteredRow);
-  rows-sound = entered-rows orders ranged;
+  terms-fit = terms-fit profile (name .kind) fits;
+  an-order = omega (arith, length-map orders (enteredRow (termsFor profile (name .kind))));
+  rows-sound = entered-rows (termsFor profile (name .kind)) orders ranged charged;
   go-ahead-with-faults = λ e. absurd (false≢true e);
   faults-with-go-ahead = λ p. absurd (false≢true p);
   moneys = λ money. entered-money money profile name orders;
@@ -221,28 +218,29 @@ module _ (book : Book) (h : sound book ≡ true) where
   entered-behind : (profile : Profile) (name : Name) (orders : List Order) → InOrder (entered profile name orders) → isUnknown (name .ident) book ≡ true
       → length book < mostShipments → rowsIn book + length orders ≤ mostRows → sound (book ++ (entered profile name orders ∷ [])) ≡ true
   unfolding entered
-  entered-behind profile name orders k unknown few rows = behind (entered profile name orders) k unknown few (omega (arith, length-map orders enteredRow))
+  entered-behind profile name orders k unknown few rows = behind (entered profile name orders) k unknown few (omega (arith, length-map orders (enteredRow (termsFor profile (name .kind)))))
 
   taken-in : (profile : Profile) (name file : List ℕ) → Left (takenIn profile name file book)
-  unfolding takenIn intakeQuestions opening contents
+  unfolding takenIn intakeQuestions profileQuestions opening contents
   taken-in profile name file =
       let opened = openingQuestions name file in
       let held = contentsQuestions profile file in
       asked-either Left (intakeQuestions profile name file book) (refusingIn book) _ refusal
       (λ yes.
-      let behind = yes-behind opened _ (yes .1) in
+      let behind = yes-behind opened _ (yes .1 .1) in
       let room = yes-behind held _ (behind .1) in
       record {
-        is-sound = new (yes .0) (all-yes-passed opened (yes-before opened _ (yes .1))) (behind .0)
+        is-sound = new (yes .0, yes .1 .0) (all-yes-passed opened (yes-before opened _ (yes .1 .1))) (behind .0)
             (all-yes-passed held (yes-before held _ (behind .1))) (room .0) (room .1 .0);
       })
     where
-      new : profileFits profile ≡ true → opening name file ≡ Passed → isUnknown (nameOf name .ident) book ≡ true → contents profile file ≡ Passed
+      new : Fitting profile → opening name file ≡ Passed → isUnknown (nameOf name .ident) book ≡ true → contents profile file ≡ Passed
           → ltb (length book) mostShipments ≡ true → leb (rowsIn book + length (orders file)) mostRows ≡ true → sound (book ++ (entered profile (nameOf name) (orders file) ∷ [])) ≡ true
       new fits opened unknown passed few rows =
           let stated = accepted-as-stated profile file passed in
           entered-behind profile (nameOf name) (orders file)
-          (entered-in-order profile (nameOf name) (orders file) fits (opened-in-form name file opened) (stated .at-least-one) (stated .in-range))
+          (entered-in-order profile (nameOf name) (orders file) fits (opened-in-form name file opened) (stated .at-least-one) (stated .in-range)
+          (rw (stated-terms profile name file opened) at (stated .charged)))
           unknown (ltb-true (length book) mostShipments few) (leb-true (rowsIn book + length (orders file)) mostRows rows)
 
   transferred-in : (title : List ℕ) (amount : ℕ) → Left (step book (Transfer title amount))

@@ -4,14 +4,16 @@ use mathlib.Core.List.{List, [], _∷_, _++_, map}
 use mathlib.Core.Option.{Option, some, none}
 use Prim.Native.Nat.{ℕ, _+_}
 use lib.Dec.{leb, ltb, eqb}
-use lib.ListN.{length, getD}
+use lib.ListN.{length}
 use Rattle.money.specs.Money.{fee, isTransfer}
+use Rattle.fee.specs.Fee.{remainderOf, feeOf}
+use Rattle.fee.specs.declared.Terms.{Terms}
 use Rattle.epe.specs.Questions.{Question, _elseNo_, asked}
 use Rattle.epe.specs.Ident.{sameIdent}
 use Rattle.epe.specs.Name.{nameOf, titleQuestions, titleOf}
 use Rattle.epe.specs.Opening.{openingQuestions}
 use Rattle.contents.specs.Contents.{contentsQuestions, orders, faultyCount}
-use Rattle.epe.specs.Profile.{profileFits}
+use Rattle.epe.specs.Profile.{profileQuestions, termsFor}
 use Rattle.epe.specs.declared.ident.Ident.{Ident}
 use Rattle.epe.specs.declared.name.Name.{Name}
 use Rattle.epe.specs.declared.profile.Profile.{Profile}
@@ -20,6 +22,7 @@ use Rattle.model.specs.Shipment.{mostShipments, mostRows, noSums, Shipme
 use Rattle.model.specs.Calls.{Call, Intake, Transfer, On, Answer, Refused, Accepted, Outcome, transferred, acted}
 use Rattle.model.specs.declared.Row.{Row}
 use Rattle.model.specs.declared.Stage.the-variants.{Waiting}
+use Rattle.model.specs.declared.State.{State}
 use Rattle.model.specs.declared.State.the-variants.{Open, Faulty}
 
 -- "Lent memory with up to 32 shipments in order of intake."
@@ -66,12 +69,21 @@ abbrev pub rowsIn : Book → ℕ
 rowsIn book = sumOver (λ (s : Shipment). length (s .rows)) book
 
 -- "Intake adds a shipment that is Waiting, without go-ahead or money, its orders Open or Faulty with both moneys waiting."
-abbrev pub enteredRow : Order → Row
-enteredRow order = record { amount = order .amount; state = cond (eqb (order .fault) 0) Open (Faulty (order .fault) true true) }
+-- ".. and rows their fee and remainder .." (document 02, A5).
+abbrev pub enteredState : Order → State
+enteredState order = cond (eqb (order .fault) 0) Open (Faulty (order .fault) true true)
 
-abbrev pub newShipment : Name → ℕ → List Row → Shipment
-newShipment name fee rows = record {
-  agreed = record { name = name; fee = fee };
+abbrev pub enteredRow : Terms → Order → Row
+enteredRow terms order = record {
+  amount = order .amount;
+  fee = fee (feeOf terms (order .amount .0));
+  remainder = remainderOf terms (order .amount .0);
+  state = enteredState order;
+}
+
+abbrev pub newShipment : Name → Terms → List Row → Shipment
+newShipment name terms rows = record {
+  agreed = record { name = name; terms = terms };
   stage = Waiting;
   goAhead = false;
   acceptedSums = noSums;
@@ -80,21 +92,18 @@ newShipment name fee rows = record {
 }
 
 -- ".. fee F (the profile's for its kind) .."
-abbrev pub feeFor : Profile → ℕ → ℕ
-feeFor profile kind = getD (profile .fees) kind (fee 0) .0
-
 unfoldable pub entered : Profile → Name → List Order → Shipment
-entered profile name orders = newShipment name (feeFor profile (name .kind)) (map enteredRow orders)
+entered profile name orders = newShipment name (termsFor profile (name .kind)) (map (enteredRow (termsFor profile (name .kind))) orders)
 
 -- "Fewer than 32 shipments in the book? 903. Its orders fit with those present in 2,048 rows? 904"
 abbrev pub roomQuestions : ℕ → Book → List Question
 roomQuestions n book = (ltb (length book) mostShipments elseNo 903) ∷ (leb (rowsIn book + n) mostRows elseNo 904) ∷ []
 
--- "Profile within the ranges above? 905", the opening, "Identifier not yet in the book? 101", the contents, and the room.
+-- "Profile within the ranges above? 905", 907, the opening, "Identifier not yet in the book? 101", the contents, and the room.
 unfoldable pub intakeQuestions : Profile → List ℕ → List ℕ → Book → List Question
 intakeQuestions profile name file book =
-    (profileFits profile elseNo 905)
-    ∷ (openingQuestions name file
+    profileQuestions profile
+    ++ (openingQuestions name file
     ++ ((isUnknown (nameOf name .ident) book elseNo 101)
     ∷ (contentsQuestions profile file
     ++ roomQuestions (length (orders file)) book)))

@@ -132,7 +132,7 @@ withRows rows s = record {
 }
 
 abbrev pub withState : State → Row → Row
-withState state row = record { amount = row .amount; state = state }
+withState state row = record { amount = row .amount; fee = row .fee; remainder = row .remainder; state = state }
 
 -- ".. Total accepted for that money still at most 9,999,999,999,999? 14. Any stage takes it."
 unfoldable pub transferred : Money → ℕ → Shipment → Outcome
@@ -175,15 +175,15 @@ becomes Pay = Paid
 becomes MarkUndelivered = Undelivered true
 becomes Withdraw = Withdrawn true true
 
-abbrev pub says : Deed → Shipment → Row → Answer
-says Post s row = FeeEarned (worth O s row)
-says Pay s row = AmountPaid (worth K s row)
-says MarkUndelivered s row = Done
-says Withdraw s row = Done
+abbrev pub says : Deed → Row → Answer
+says Post row = FeeEarned (worth O row)
+says Pay row = AmountPaid (worth K row)
+says MarkUndelivered row = Done
+says Withdraw row = Done
 
 -- Order n of a shipment, counted from 1.
 abbrev pub noOrder : Row
-noOrder = record { amount = record { 0 = 0 }; state = Paid }
+noOrder = record { amount = record { 0 = 0 }; fee = record { 0 = 0 }; remainder = 0; state = Paid }
 
 abbrev pub orderAt : ℕ → Shipment → Row
 orderAt number s = getD (s .rows) (number - 1) noOrder
@@ -196,7 +196,7 @@ onOrder deed number s =
     ∷ (between 1 (length (s .rows)) number elseNo 20)
     ∷ (fits deed (orderAt number s .state) elseNo 21)
     ∷ []) (refusing s)
-    (leave (says deed s (orderAt number s)) (withRows (set (s .rows) (number - 1) (withState (becomes deed) (orderAt number s))) s))
+    (leave (says deed (orderAt number s)) (withRows (set (s .rows) (number - 1) (withState (becomes deed) (orderAt number s))) s))
 
 -- "OPR, ZPR, ZZR return all that waits in Faulty, Undelivered, Withdrawn orders, ..": whether a money of an order waits on a route.
 abbrev pub takes : Route → State → Bool
@@ -222,7 +222,7 @@ afterReturn route money row = cond (waitsOn route money row) (withState (cleared
 
 -- What waits on a route, and in how many orders.
 unfoldable pub waiting : Route → Money → Shipment → ℕ
-waiting route money s = sumOver (λ (row : Row). onlyIf (waitsOn route money row) (worth money s row)) (s .rows)
+waiting route money s = sumOver (λ (row : Row). onlyIf (waitsOn route money row) (worth money row)) (s .rows)
 
 unfoldable pub waitingOrders : Route → Money → Shipment → ℕ
 waitingOrders route money s = sumOver (λ (row : Row). onlyIf (waitsOn route money row) 1) (s .rows)

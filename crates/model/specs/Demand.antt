@@ -100,7 +100,7 @@ ordersOf (some s) = length (s .rows)
 
 abbrev pub worthOfOrder : Money → ℕ → Option Shipment → ℕ
 worthOfOrder money j none = 0
-worthOfOrder money j (some s) = worth money s (orderByIndex j (some s))
+worthOfOrder money j (some s) = worth money (orderByIndex j (some s))
 
 abbrev pub leftWithOrders : Money → Ident → Book → Call → ℕ
 leftWithOrders money ident book call =

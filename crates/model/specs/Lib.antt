@@ -7,3 +7,4 @@ pub mod Demand
 pub mod Zs1
 pub mod Neighbours
 pub mod LongTitles
+pub mod Rated

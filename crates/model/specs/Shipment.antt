@@ -1,10 +1,10 @@
 -- A shipment and its orders, and what they come to in either money. Document 01, "The book".
 use mathlib.Core.Bool.{Bool, true, false, _||_}
 use mathlib.Core.List.{List, [], _∷_}
-use Prim.Native.Nat.{ℕ, _+_, _*_, _-_}
-use lib.ListN.{length}
+use Prim.Native.Nat.{ℕ, _+_, _-_}
 use Rattle.money.specs.declared.Money.{Money}
 use Rattle.money.specs.declared.Money.the-variants.{K, O}
+use Rattle.fee.specs.declared.Terms.{Terms}
 use Rattle.epe.specs.declared.name.Name.{Name}
 use Rattle.model.specs.declared.Row.{Row}
 use Rattle.model.specs.declared.Stage.{Stage}
@@ -24,10 +24,10 @@ abbrev pub byMoney {ℓ} : {A : Type ℓ} → Money → A → A → A
 byMoney K k o = k
 byMoney O k o = o
 
--- ".. its name parts, fee F (the profile's for its kind) ..": what intake fixes.
+-- ".. its name parts, fee F (the profile's for its kind) ..": what intake fixes. "Shipments keep flat part and rate .." (document 02, A5).
 pub record Agreed : Type 0 where
   pub name : Name
-  pub fee : ℕ
+  pub terms : Terms
 
 -- A sum of K, and one of O.
 pub record PerMoney : Type 0 where
@@ -129,14 +129,13 @@ waits money (Faulty fault k o) = byMoney money k o
 waits money (Undelivered k) = byMoney money k false
 waits money (Withdrawn k o) = byMoney money k o
 
--- What an order of a shipment is worth: its amount in K, F in O.
-abbrev pub worth : Money → Shipment → Row → ℕ
-worth money s row = byMoney money (row .amount .0) (s .agreed .fee)
+-- What an order is worth: its amount in K, and in O its fee. ".. fees are each order's own from here on, .." (document 02, A5).
+abbrev pub worth : Money → Row → ℕ
+worth money row = byMoney money (row .amount .0) (row .fee .0)
 
--- "Need: K is the sum of all amounts, faulty ones too; O is order count times F."
+-- "Need: K is the sum of all amounts, faulty ones too; ..", ".. and the need in O is the sum of fees .." (document 02, A5).
 unfoldable pub need : Money → Shipment → ℕ
-need K s = sumOver (λ (row : Row). row .amount .0) (s .rows)
-need O s = length (s .rows) * s .agreed .fee
+need money s = sumOver (worth money) (s .rows)
 
 abbrev pub needOncePaired : Money → Shipment → ℕ
 needOncePaired money s = onlyIf (isPaired (s .stage)) (need money s)
@@ -152,7 +151,7 @@ holds O state = isOpen state || waits O state
 
 -- "In other stages orders hold nothing."
 unfoldable pub held : Money → Shipment → ℕ
-held money s = onlyIf (isPaired (s .stage)) (sumOver (λ (row : Row). onlyIf (holds money (row .state)) (worth money s row)) (s .rows))
+held money s = onlyIf (isPaired (s .stage)) (sumOver (λ (row : Row). onlyIf (holds money (row .state)) (worth money row)) (s .rows))
 
 unfoldable pub anyFaulty : List Row → Bool
 anyFaulty [] = false

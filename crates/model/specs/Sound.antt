@@ -5,15 +5,17 @@
 use mathlib.Core.Path.{_≡_}
 use mathlib.Core.Bool.{Bool, true, false, not, _&&_, _||_}
 use mathlib.Core.List.{List, [], _∷_}
-use Prim.Native.Nat.{ℕ, _+_}
+use Prim.Native.Nat.{ℕ, _+_, _*_, _-_}
 use lib.Dec.{leb, eqb}
 use lib.ListN.{length}
 use Rattle.text.specs.Bytes.{between}
 use Rattle.money.specs.Money.{isOrderAmount, isOrderFee, isSum}
 use Rattle.money.specs.declared.Money.{Money}
 use Rattle.money.specs.declared.Money.the-variants.{K, O}
+use Rattle.fee.specs.Fee.{termsFit, divides, rateCap}
+use Rattle.fee.specs.declared.Terms.{Terms}
 use Rattle.epe.specs.Name.{nameInForm}
-use Rattle.model.specs.Shipment.{mostShipments, mostRows, Shipment, accepted, returned, isWaiting, isPaired, needOncePaired, anyFaulty}
+use Rattle.model.specs.Shipment.{mostShipments, mostRows, Shipment, accepted, returned, isWaiting, isPaired, sumOver, need, needOncePaired, anyFaulty}
 use Rattle.model.specs.Calls.{Call}
 use Rattle.model.specs.Book.{Book, isUnknown, rowsIn, step}
 use Rattle.model.specs.Demand.{bookAt}
@@ -40,14 +42,18 @@ beforePairing (Faulty fault k o) = k && o
 beforePairing (Undelivered k) = false
 beforePairing (Withdrawn k o) = false
 
-unfoldable pub rowSound : Stage → Row → Bool
-rowSound stage row =
+-- ".. its soundness (the division holds) .." (document 02, A5): a row's amount, fee and remainder, on the terms of its shipment.
+abbrev pub rowCharged : Terms → Row → Bool
+rowCharged terms row =
     isOrderAmount (row .amount .0)
-    && (faultInRange (row .state) && (isPaired stage || beforePairing (row .state)))
+    && (isOrderFee (row .fee .0) && divides terms (row .amount .0) (row .fee .0) (row .remainder))
 
-unfoldable pub rowsSound : Stage → List Row → Bool
-rowsSound stage [] = true
-rowsSound stage (row ∷ rows) = rowSound stage row && rowsSound stage rows
+unfoldable pub rowSound : Terms → Stage → Row → Bool
+rowSound terms stage row = rowCharged terms row && (faultInRange (row .state) && (isPaired stage || beforePairing (row .state)))
+
+unfoldable pub rowsSound : Terms → Stage → List Row → Bool
+rowsSound terms stage [] = true
+rowsSound terms stage (row ∷ rows) = rowSound terms stage row && rowsSound terms stage rows
 
 -- Accepted and returned are sums, and ".. transfers accepted are at least surplus returned plus, when Paired, the need."
 unfoldable pub moneySound : Money → Shipment → Bool
@@ -60,9 +66,9 @@ moneySound money s =
 unfoldable pub shipmentSound : Shipment → Bool
 shipmentSound s =
     nameInForm (s .agreed .name)
-    && (isOrderFee (s .agreed .fee)
+    && (termsFit (s .agreed .terms)
     && (leb 1 (length (s .rows))
-    && (rowsSound (s .stage) (s .rows)
+    && (rowsSound (s .agreed .terms) (s .stage) (s .rows)
     && ((not (s .goAhead) || anyFaulty (s .rows))
     && ((not (isPaired (s .stage) && anyFaulty (s .rows)) || s .goAhead)
     && (moneySound K s && moneySound O s))))))
@@ -83,3 +89,24 @@ pub record StaysSound : Type 0 where
 -- So a book begun empty is always sound: for every list of calls from the empty book, the book at every point of the list is sound.
 abbrev pub AlwaysSound : Type 0
 AlwaysSound = (calls : List Call) (point : ℕ) → sound (bookAt calls point) ≡ true
+
+-- "For every shipment, 10,000 times the sum of the rated parts plus the sum of the remainders equals the rate times the sum of the amounts." (document
+-- 02, A5): of every sound shipment, and so of every one in every list.
+abbrev pub ratedParts : Shipment → ℕ
+ratedParts s = sumOver (λ (row : Row). row .fee .0 - s .agreed .terms .flat .0) (s .rows)
+
+abbrev pub remainders : Shipment → ℕ
+remainders s = sumOver (λ (row : Row). row .remainder) (s .rows)
+
+abbrev pub Divided : Shipment → Type 0
+Divided s = rateCap * ratedParts s + remainders s ≡ s .agreed .terms .rate .0 * need K s
+
+abbrev pub SoundIsDivided : Type 0
+SoundIsDivided = (s : Shipment) → shipmentSound s ≡ true → Divided s
+
+abbrev pub AllDivided : Book → Type 0
+AllDivided [] = Unit {0}
+AllDivided (s ∷ book) = Divided s × AllDivided book
+
+abbrev pub AlwaysDivided : Type 0
+AlwaysDivided = (calls : List Call) (point : ℕ) → AllDivided (bookAt calls point)

@@ -5,6 +5,7 @@ use Prim.Native.Nat.{ℕ}
 use Prim.Native.String.{String}
 use Rattle.text.specs.Quoted.{bytes}
 use Rattle.money.specs.Money.{fee}
+use Rattle.fee.specs.Fee.{rate}
 use Rattle.money.specs.Text.{orderText}
 use Rattle.money.specs.declared.AmountRead.the-variants.{Is, Not}
 use Rattle.money.specs.declared.Money.{Money}
@@ -35,7 +36,7 @@ fileBehind header =
     ∷ [])
 
 abbrev pub profile : Profile
-profile = record { today = record { 0 = 20201007 }; fees = fee 350 ∷ fee 350 ∷ fee 350 ∷ fee 350 ∷ fee 350 ∷ []; fields = 19 }
+profile = record { today = record { 0 = 20201007 }; flat = map fee (350 ∷ 350 ∷ 350 ∷ 350 ∷ 350 ∷ []); fields = 19; rates = map rate (0 ∷ 0 ∷ 0 ∷ 0 ∷ 0 ∷ []) }
 
 abbrev pub intake : String → String → Call
 intake name header = Intake profile (bytes name) (fileBehind header)

@@ -1,5 +1,6 @@
 // The book as plain values: the types that its definitions share with the code above.
 use money::Amount;
+use money::Fee;
 
 // Where a shipment stands.
 pub enum Stage {
@@ -26,9 +27,11 @@ pub enum State {
     Withdrawn(bool, bool),
 }
 
-// An order's row.
+// An order's row: its amount, its fee with what the division left beside it, and where it stands.
 pub struct Row {
     pub amount: Amount,
+    pub fee: Fee,
+    pub remainder: u64,
     pub state: State,
 }
 

@@ -5,7 +5,6 @@ use mathlib.Core.Bool.{true}
 use mathlib.Core.List.{List}
 use Prim.Native.Nat.{ℕ, suc, _+_, _*_, _-_, _≤_, _<_}
 use native.Mathlib.Omega.{arith}
-use Rattle.model.specs.declared.Row.{Row}
 use Rattle.model.specs.declared.State.{State}
 use Rattle.model.specs.declared.State.the-variants.{Open, Posted, Paid, Faulty, Undelivered, Withdrawn}
 use Rattle.memory.specs.Layout.{rowBytes}
@@ -50,16 +49,16 @@ module _ (codes : List ℕ) (found : Found) (number : ℕ) where
   measured (Withdrawn k o) h l = omega arith
 
 module _ {memory codes : List ℕ} {k n : ℕ} {found : Found} {done : ℕ} (so-far : Finding memory codes k n found done) (more : done < n) where
-  pub finding-on : (row : Row) {next : Found} → row ≡ rowOf (rowBytes memory (k + done)) → n ≤ 2_048 → next ≡ foundOrder codes found (done + 1) (row .state)
+  pub finding-on : (state : State) {next : Found} → state ≡ rowOf (rowBytes memory (k + done)) .state → n ≤ 2_048 → next ≡ foundOrder codes found (done + 1) state
       → Finding memory codes k n next (done + 1)
   unfolding foundIn rowsFrom
-  finding-on row is-row most is-next =
+  finding-on state is-state most is-next =
       let few = so-far .few in
       let short = so-far .short in
       let running = places-at-most 20 (found .count + 1) (omega arith) (omega arith) in
       let number = places-at-most 20 (done + 1) (omega arith) (omega arith) in
-      let count = counted codes found (done + 1) (row .state) in
-      let long = measured codes found (done + 1) (row .state) running number in
+      let count = counted codes found (done + 1) state in
+      let long = measured codes found (done + 1) state running number in
       let left : n - done ≡ suc (n - (done + 1)) = omega arith in
       let next-number : done + 1 + 1 ≡ suc (done + 1) = omega arith in
       let next-row : k + (done + 1) ≡ suc (k + done) = omega arith in
@@ -67,7 +66,7 @@ module _ {memory codes : List ℕ} {k n : ℕ} {found : Found} {done : ℕ} (so-
         far = omega arith;
         few = omega arith;
         short = omega arith;
-        rest = rw (next-number, next-row, is-row) (rw left at (so-far .rest));
+        rest = rw (next-number, next-row, is-state) (rw left at (so-far .rest));
       })
 
 pub finding-done : {memory codes : List ℕ} {k n : ℕ} {found : Found} {done : ℕ} → Finding memory codes k n found done → n ≤ done

@@ -6,7 +6,6 @@ use mathlib.Core.List.{List, [], _∷_, _++_, append-nil}
 use Prim.Native.Nat.{ℕ, suc, _+_, _-_, _≤_, _<_}
 use native.Mathlib.Omega.{arith}
 use lib.ListN.{length}
-use Rattle.model.specs.declared.Row.{Row}
 use Rattle.model.specs.declared.State.{State}
 use Rattle.model.specs.declared.State.the-variants.{Open, Posted, Paid, Faulty, Undelivered, Withdrawn}
 use Rattle.memory.specs.Layout.{rowBytes}
@@ -100,28 +99,28 @@ recording-begun output memory codes from k n fits =
     record { far = omega arith; few = omega arith; left = rw (here, all) (all-left from _ output fits) }
 
 module _ {output memory codes : List ℕ} {from k n : ℕ} {put : Put} {now : List ℕ} {done : ℕ} (so-far : Recording output memory codes from k n put now done) (more : done < n)
-    (row : Row) (is-row : row ≡ rowOf (rowBytes memory (k + done))) where
+    (state : State) (is-state : state ≡ rowOf (rowBytes memory (k + done)) .state) where
   abbrev piece : List ℕ
-  piece = behindHeader (opeRecords codes (put .running) (beforeFaulty (done + 1) (row .state) []))
+  piece = behindHeader (opeRecords codes (put .running) (beforeFaulty (done + 1) state []))
 
   abbrev behind : List ℕ
-  behind = behindHeader (opeRecords codes (put .running + length (beforeFaulty (done + 1) (row .state) [])) (faultyFrom (done + 1 + 1) (rowsFrom memory (k + (done + 1)) (n - (done + 1)))))
+  behind = behindHeader (opeRecords codes (put .running + length (beforeFaulty (done + 1) state [])) (faultyFrom (done + 1 + 1) (rowsFrom memory (k + (done + 1)) (n - (done + 1)))))
 
   left-here : Left from (behindHeader (opeRecords codes 1 (faultyFrom 1 (rowsFrom memory k n)))) output (put .at) (piece ++ behind) now
   unfolding faultyFrom rowsFrom
   left-here =
       let left : n - done ≡ suc (n - (done + 1)) = omega arith in
       let next-row : k + (done + 1) ≡ suc (k + done) = omega arith in
-      rw (← order-before codes (put .running) (done + 1) (faultyFrom (done + 1 + 1) (rowsFrom memory (k + (done + 1)) (n - (done + 1)))) (row .state), next-row, is-row)
+      rw (← order-before codes (put .running) (done + 1) (faultyFrom (done + 1 + 1) (rowsFrom memory (k + (done + 1)) (n - (done + 1)))) state, next-row, is-state)
       (rw left at (so-far .left))
 
   pub order-fits : put .at + length piece ≤ length now
   order-fits = piece-fits piece behind left-here
 
-  pub recording-on : {next : Put} {now′ : List ℕ} → PutOrder codes (done + 1) (row .state) put now next now′ → Recording output memory codes from k n next now′ (done + 1)
+  pub recording-on : {next : Put} {now′ : List ℕ} → PutOrder codes (done + 1) state put now next now′ → Recording output memory codes from k n next now′ (done + 1)
   recording-on {next} step =
       let few = so-far .few in
-      let one = few-orders (done + 1) (row .state) in
+      let one = few-orders (done + 1) state in
       let running = step .next in
       record { far = omega arith; few = omega arith; left = rw running (piece-put piece behind left-here (step .place) (step .text)) }
 

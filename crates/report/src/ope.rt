@@ -29,8 +29,7 @@ use epe::ident::is_identifier;
 use memory::head::head_bytes;
 use memory::head::orders;
 use memory::name::ident;
-use memory::row::read_row;
-use memory::row::row_bytes;
+use memory::row::state;
 use model::State;
 use text::bytes::first;
 use text::number::is_between;
@@ -185,8 +184,7 @@ fn faults_in(memory: &[u8], k: usize, n: usize, codes: &[u64]) -> Found
         coded: true,
     };
     for done in 0..n {
-        let row = read_row(row_bytes(memory, k + done));
-        let state = row.state;
+        let state = state(memory, k + done);
         found = found_order(found, done as u64 + 1, state, codes);
     }
     found
@@ -257,8 +255,7 @@ fn put_records(output: &mut [u8], at: usize, memory: &[u8], k: usize, n: usize, 
 {
     let mut put = Put { at, running: 1 };
     for done in 0..n {
-        let row = read_row(row_bytes(memory, k + done));
-        let state = row.state;
+        let state = state(memory, k + done);
         put = put_order(output, put, done as u64 + 1, state, codes);
     }
 }

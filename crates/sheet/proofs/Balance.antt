@@ -3,9 +3,8 @@
 use mathlib.Core.Path.{_≡_, refl}
 use mathlib.Core.Bool.{Bool, true, false, _||_, false≢true}
 use mathlib.Core.List.{List, [], _∷_}
-use Prim.Native.Nat.{ℕ, _+_, _*_}
+use Prim.Native.Nat.{ℕ, _+_}
 use native.Mathlib.Omega.{arith}
-use lib.ListN.{length}
 use Rattle.money.specs.declared.Money.{Money}
 use Rattle.money.specs.declared.Money.the-variants.{K, O}
 use Rattle.model.specs.Shipment.{Shipment, accepted, isPaired, onlyIf, sumOver, worth, need, free, holds, held}
@@ -37,16 +36,6 @@ shared O (Undelivered k) n = omega arith
 shared O (Withdrawn k true) n = omega arith
 shared O (Withdrawn k false) n = omega arith
 
--- the worth of all orders is the need
-all-needed : (money : Money) (s : Shipment) → sumOver (λ (row : Row). worth money s row) (s .rows) ≡ need money s
-unfolding need
-all-needed K s = refl
-all-needed O s = go (s .rows)
-  where
-    go : (rows : List Row) → sumOver (λ (row : Row). s .agreed .fee) rows ≡ length rows * s .agreed .fee
-    go [] = omega arith
-    go (row ∷ rows) = let rest = go rows in omega arith
-
 -- before pairing no order's money is out
 none-out : (money : Money) (state : State) (n : ℕ) → beforePairing state ≡ true → onlyIf (isOut money state) n ≡ 0
 none-out K Open n h = refl
@@ -64,41 +53,40 @@ none-out O (Withdrawn k o) n h = absurd (false≢true h)
 
 module _ (money : Money) (s : Shipment) where
   abbrev those : (State → Bool) → Row → ℕ
-  those test row = onlyIf (test (row .state)) (worth money s row)
+  those test row = onlyIf (test (row .state)) (worth money row)
 
   shared-all : (rows : List Row)
       → sumOver (those (holds money)) rows + sumOver (those (isOut money)) rows + sumOver (those (waitsNoMore money)) rows
-      ≡ sumOver (λ (row : Row). worth money s row) rows
+      ≡ sumOver (worth money) rows
   shared-all [] = refl
   shared-all (row ∷ rows) =
-      let here = shared money (row .state) (worth money s row) in
+      let here = shared money (row .state) (worth money row) in
       let rest = shared-all rows in
       omega arith
 
   -- an order of a shipment that is not Paired
-  row-before : (row : Row) → isPaired (s .stage) ≡ false → rowSound (s .stage) row ≡ true → beforePairing (row .state) ≡ true
+  row-before : (row : Row) → isPaired (s .stage) ≡ false → rowSound (s .agreed .terms) (s .stage) row ≡ true → beforePairing (row .state) ≡ true
   unfolding rowSound
   row-before row unpaired h =
       let either : (isPaired (s .stage) || beforePairing (row .state)) ≡ true = search halves in
       rw unpaired at either
 
-  none-out-of-all : isPaired (s .stage) ≡ false → (rows : List Row) → rowsSound (s .stage) rows ≡ true → sumOver (those (isOut money)) rows ≡ 0
+  none-out-of-all : isPaired (s .stage) ≡ false → (rows : List Row) → rowsSound (s .agreed .terms) (s .stage) rows ≡ true → sumOver (those (isOut money)) rows ≡ 0
   unfolding rowsSound
   none-out-of-all unpaired [] h = refl
   none-out-of-all unpaired (row ∷ rows) h =
       omega (
         arith,
-        none-out money (row .state) (worth money s row) (row-before row unpaired (search halves)),
+        none-out money (row .state) (worth money row) (row-before row unpaired (search halves)),
         none-out-of-all unpaired rows (search halves),
       )
 
   pub balances-when : (paired : Bool) → isPaired (s .stage) ≡ paired → shipmentSound s ≡ true
       → accepted money s ≡ held money s + free money s + left money s
-  unfolding held free left
+  unfolding need held free left
   balances-when true paired h =
       let covered = in-order s h .moneys money .covered in
       let whole = shared-all (s .rows) in
-      let needed = all-needed money s in
       rw paired (omega (arith, rw paired at covered))
   balances-when false unpaired h =
       let covered = in-order s h .moneys money .covered in

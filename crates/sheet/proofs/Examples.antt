@@ -1,4 +1,4 @@
--- Shipment ZS1's rows of the sheet, and the questions of a sheet at their edges, computed from the definitions.
+-- Rows of the sheet of shipment ZS1 and of shipments with a rate, and the questions of a sheet at their edges, computed from the definitions.
 -- Assumes nothing.
 use mathlib.Core.Path.{_≡_, refl}
 use mathlib.Core.List.{[], _∷_, map}
@@ -16,10 +16,24 @@ use Rattle.sheet.specs.declared.SheetRow.{SheetRow}
 use Rattle.sheet.specs.declared.Totals.{Totals}
 use Rattle.sheet.specs.Sheet.{left, rowFor, plusAll, withinCap, sheetOf}
 use Rattle.sheet.specs.Zs1.{Zs1Sheet}
+use Rattle.sheet.specs.Rated.{RatedSheet}
 
 pub zs1-sheet : Zs1Sheet
 unfolding stepped zs1 left rowFor
 zs1-sheet = record { line-6 = refl; line-8 = refl }
+
+pub rated-sheet : RatedSheet
+unfolding stepped zs1 left rowFor
+rated-sheet = record {
+  waiting = refl;
+  paired = refl;
+  posted = refl;
+  paid = refl;
+  faulty-returned = refl;
+  all-left = refl;
+  scantily = (refl, refl);
+  free-of-charge = refl;
+}
 
 -- totals that are zero but for what has left of O
 abbrev withLeft : ℕ → Totals

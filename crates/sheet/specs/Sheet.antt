@@ -1,4 +1,5 @@
--- The balance sheet: a row to a shipment, and totals. Document 01, "The balance sheet".
+-- The balance sheet: a row to a shipment, and totals. Document 01, "The balance sheet". Since document 02's A5 ("Earned and returned fees are each
+-- order's own from here on, ..") F is each order's own fee.
 use mathlib.Core.Path.{_≡_}
 use mathlib.Core.Bool.{Bool, true, false, not, _&&_, _||_}
 use mathlib.Core.List.{List, [], _∷_, _++_, map}
@@ -35,7 +36,7 @@ isPaid (Faulty fault k o) = false
 isPaid (Undelivered k) = false
 isPaid (Withdrawn k o) = false
 
--- "K left is the amounts of Paid orders, plus .. . O left is F for each Posted, Paid or Undelivered order, plus .."
+-- "K left is the amounts of Paid orders, plus .. . O left is F for each Posted, Paid or Undelivered order, plus ..": the order's own F.
 abbrev pub isOut : Money → State → Bool
 isOut K state = isPaid state
 isOut O state = isPosted state || (isPaid state || isUndelivered state)
@@ -50,7 +51,7 @@ waitsNoMore money state = canWait money state && not (waits money state)
 
 -- What the orders that pass a test are worth.
 abbrev pub worthWhere : (State → Bool) → Money → Shipment → ℕ
-worthWhere test money s = sumOver (λ (row : Row). onlyIf (test (row .state)) (worth money s row)) (s .rows)
+worthWhere test money s = sumOver (λ (row : Row). onlyIf (test (row .state)) (worth money row)) (s .rows)
 
 -- ".. in a Paired shipment .., plus K surplus returned .., plus O surplus returned."
 unfoldable pub left : Money → Shipment → ℕ

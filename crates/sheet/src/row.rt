@@ -4,7 +4,6 @@ use crate::Fees;
 use crate::SheetRow;
 use memory::head::amounts_accepted;
 use memory::head::amounts_returned;
-use memory::head::fees;
 use memory::head::fees_accepted;
 use memory::head::fees_returned;
 use memory::head::head_bytes;
@@ -14,26 +13,26 @@ use memory::holding::holding;
 use memory::holding::holding_table;
 use memory::name::ident;
 use memory::row::amount;
-use memory::row::row_bytes;
+use memory::row::fee;
 use money::Amount;
 use money::Fee;
 ghost use mathlib.Core.Path.{_≡_};
 ghost use Prim.Native.Nat.{_+_, _≤_, _<_, _^_};
 ghost use lib.ListN.{length};
 ghost use Rattle.model.specs.Shipment.{mostRows};
-ghost use Rattle.memory.specs.Layout.{size, IsRow};
+ghost use Rattle.memory.specs.Layout.{size, rowBytes};
 ghost use Rattle.memory.specs.Rows.{rowOf};
 ghost use Rattle.memory.specs.Read.{rowsFrom, shipmentAt, Sits};
 ghost use Rattle.memory.specs.Inner.Holdings.{holdingTable};
 ghost use Rattle.sheet.specs.Sheet.{amountsOf, feesOf, rowFor};
 ghost use Rattle.sheet.specs.Inner.Parts.{noParts, withOrder, partsOf, partsOncePaired, SmallParts, divided, amountsFrom, feesFrom};
 
-// Of orders: how many, all their amounts, the amounts held, and how many hold a fee.
+// Of orders: all their amounts, the amounts held, all their fees, and the fees held.
 pub struct Parts {
-    pub orders: u64,
     pub amounts: Amount,
     pub held: Amount,
-    pub holders: u64,
+    pub fees: Fee,
+    pub fees_held: Fee,
 }
 
 // The row of the shipment at a place.
@@ -75,7 +74,7 @@ fn amounts_at(memory: &[u8], i: usize, k: usize, parts: Parts) -> Amounts
     amounts_divided(accepted, returned, parts.amounts, parts.held)
 }
 
-// Its fees: an order needs the fee, and each that holds a fee holds it.
+// Its fees, likewise: each order needs its own fee, and holds it or not.
 fn fees_at(memory: &[u8], i: usize, k: usize, parts: Parts) -> Fees
     requires { ⌜ Sits (now memory) i k × (parts ≡ partsOncePaired (shipmentAt (now memory) i k)) ⌝ }
     ensures { λ r. ⌜ r ≡ feesOf (shipmentAt (now (memory .entry)) i k) ⌝ }
@@ -83,9 +82,7 @@ fn fees_at(memory: &[u8], i: usize, k: usize, parts: Parts) -> Fees
     let head = head_bytes(memory, i);
     let accepted = fees_accepted(head);
     let returned = fees_returned(head);
-    let need = fees(head, parts.orders);
-    let held = fees(head, parts.holders);
-    fees_divided(accepted, returned, need, held)
+    fees_divided(accepted, returned, parts.fees, parts.fees_held)
 }
 
 // No parts.
@@ -93,11 +90,12 @@ fn no_parts() -> Parts
     ensures { λ r. ⌜ r ≡ noParts ⌝ }
 {
     let nothing = Amount::sum(0);
+    let no_fee = Fee::sum(0);
     Parts {
-        orders: 0,
         amounts: nothing,
         held: nothing,
-        holders: 0,
+        fees: no_fee,
+        fees_held: no_fee,
     }
 }
 
@@ -111,7 +109,7 @@ fn parts_of(memory: &[u8], k: usize, n: usize) -> Parts
     let mut i = k;
     let mut left = n;
     while 0 < left {
-        parts = with_order(parts, row_bytes(memory, i), &table);
+        parts = with_order(parts, memory, i, &table);
         i += 1;
         left -= 1;
     }
@@ -146,21 +144,24 @@ fn fees_divided(accepted: Fee, returned: Fee, need: Fee, held: Fee) -> Fees
     }
 }
 
-// The parts with one order more.
-fn with_order(parts: Parts, row: &[u8], table: &[u64]) -> Parts
-    requires { ⌜ IsRow (now row) × (now table ≡ holdingTable) × SmallParts parts ⌝ }
-    ensures { λ r. ⌜ (r ≡ withOrder parts (rowOf (now (row .entry)))) × (r .amounts .0 < parts .amounts .0 + 2 ^ 32) ⌝ }
+// The parts with the order of row k.
+fn with_order(parts: Parts, memory: &[u8], k: usize, table: &[u64]) -> Parts
+    requires { ⌜ (k < mostRows) × (size ≤ length (now memory)) × (now table ≡ holdingTable) × SmallParts parts ⌝ }
+    ensures { λ r. ⌜ (r ≡ withOrder parts (rowOf (rowBytes (now (memory .entry)) k))) × (r .amounts .0 < parts .amounts .0 + 2 ^ 32) × (r .fees .0 < parts .fees .0 + 2 ^ 32) ⌝ }
 {
-    let amount = amount(row);
-    let holding = holding(row, table);
-    let k_held = amount.0 * (holding % 2);
-    let holder = holding / 2;
+    let amount = amount(memory, k);
+    let fee = fee(memory, k);
+    let holding = holding(memory, k, table);
+    let amount_held = amount.0 * (holding % 2);
+    let fee_held = fee.0 * (holding / 2);
     let amounts = Amount::sum(parts.amounts.0 + amount.0);
-    let held = Amount::sum(parts.held.0 + k_held);
+    let held = Amount::sum(parts.held.0 + amount_held);
+    let fees = Fee::sum(parts.fees.0 + fee.0);
+    let fees_held = Fee::sum(parts.fees_held.0 + fee_held);
     Parts {
-        orders: parts.orders + 1,
         amounts,
         held,
-        holders: parts.holders + holder,
+        fees,
+        fees_held,
     }
 }

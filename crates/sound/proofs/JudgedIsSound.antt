@@ -1,22 +1,27 @@
 -- A shipment is sound exactly where it is judged so, by its head and the tally of its rows.
 -- Assumes nothing.
-use mathlib.Core.Path.{_≡_, refl, sym}
+use mathlib.Core.Path.{_≡_, refl, sym, _∙_, ap}
 use mathlib.Core.Bool.{Bool, true, false, not, cond, _&&_, _||_, false≢true}
 use mathlib.Core.List.{List}
 use Prim.Native.Nat.{ℕ, _+_, _≤_, _<_}
 use native.Mathlib.Omega.{arith}
 use borrow.Author.Tests.{le-leb, lt-leb, leb-true}
-use Rattle.text.proofs.Branches.{and-left, and-right}
+use lib.Dec.{leb}
+use Rattle.text.proofs.Branches.{and-left, and-right, and-true, first-no, second-no}
 use Rattle.money.specs.Money.{sumCap, isSum, WithinSum}
 use Rattle.money.specs.declared.Money.{Money}
+use Rattle.fee.specs.Fee.{termsFit}
+use Rattle.fee.specs.declared.Terms.{Terms}
 use Rattle.epe.specs.Name.{nameInForm}
 use Rattle.model.specs.Shipment.{mostRows, onlyIf, need}
 use Rattle.model.specs.Sound.{moneySound, shipmentSound}
 use Rattle.memory.specs.Layout.{headBytes}
-use Rattle.memory.specs.Heads.{nameIn, stageIn, flagsInForm, orderCountIn, transfersIn, surplusIn, shipmentIn}
+use Rattle.memory.specs.Heads.{nameIn, termsIn, stageIn, flagsInForm, orderCountIn, transfersIn, surplusIn, shipmentIn}
 use Rattle.memory.specs.Read.{rowsFrom}
+use Rattle.model.specs.declared.Row.{Row}
 use Rattle.sound.specs.declared.tally.Tally.{Tally}
-use Rattle.sound.specs.Inner.Tally.{tallyOf, pairedIn, waitingIn, rowsFit, goAheadFits, isCovered, moneyFits, moneysFit, judged, JudgedIsSound}
+use Rattle.sound.specs.Inner.Charges.{Charged}
+use Rattle.sound.specs.Inner.Tally.{tallyOf, Tallied, pairedIn, waitingIn, rowsFit, goAheadFits, isCovered, moneyFits, moneysFit, judged, JudgedIsSound}
 use Rattle.sound.specs.Inner.Walk.{soundAt}
 use Rattle.sound.proofs.ReadLaws.{rows-many}
 use Rattle.sound.proofs.RowClasses.{rows-fit, any-faulty}
@@ -33,7 +38,27 @@ go-ahead false faulty false t = refl
 
 pub judged-is-sound : JudgedIsSound
 unfolding shipmentSound moneySound need shipmentIn rowsFit goAheadFits isCovered moneyFits moneysFit judged
-judged-is-sound head rows = rw (rows-fit (stageIn head) rows, any-faulty rows, go-ahead)
+judged-is-sound head rows = rw (rows-fit (termsIn head) (stageIn head) rows, any-faulty rows, go-ahead)
+
+-- a tally as code has it is judged like the whole
+pub judged-alike : (head : List ℕ) (n : ℕ) (terms : Terms) (rows : List Row) (tally : Tally) → Tallied terms rows tally → judged head n tally ≡ judged head n (tallyOf terms rows)
+unfolding judged rowsFit
+judged-alike head n terms rows tally found = by (tally .charges .charged) refl
+  where
+    charges : Charged terms rows (tally .charges)
+    charges = found .charges-are
+
+    never : (one : Tally) → one .charges .charged ≡ false → judged head n one ≡ false
+    never one none = second-no (leb 1 n) _ (first-no (rowsFit head one) _ (rw none refl))
+
+    by : (t : Bool) → tally .charges .charged ≡ t → judged head n tally ≡ judged head n (tallyOf terms rows)
+    by true each-is =
+        ap (judged head n)
+        (λ i. record {
+          classes = found .classes-are i;
+          charges = record { amounts = charges .amounts-are i; fees = charges .fees-are each-is i; charged = charges .charged-is i };
+        })
+    by false none = never tally none ∙ sym (never (tallyOf terms rows) (sym (charges .charged-is) ∙ none))
 
 -- the sums of a money, as code asks for them: both in range, then what they cover
 sums-wrong : (a b c : Bool) → (a && b) ≡ false → false ≡ (a && (b && c))
@@ -58,7 +83,7 @@ module _ (m head : List ℕ) (i k : ℕ) (head-is : head ≡ headBytes m i) wher
     no-room h = rw (← head-is, flags, ← n-is, lt-leb (k + n) mostRows h)
 
     module _ (room : k + n ≤ mostRows) where
-      judged-there : soundAt m i k ≡ (nameInForm (nameIn head) && judged head n (tallyOf (rowsFrom m k n)))
+      judged-there : soundAt m i k ≡ (nameInForm (nameIn head) && (termsFit (termsIn head) && judged head n (tallyOf (termsIn head) (rowsFrom m k n))))
       unfolding soundAt
       judged-there =
           let many = rows-many m k n in
@@ -67,9 +92,17 @@ module _ (m head : List ℕ) (i k : ℕ) (head-is : head ≡ headBytes m i) wher
       pub name-wrong : nameInForm (nameIn head) ≡ false → false ≡ soundAt m i k
       name-wrong h = rw (judged-there, h)
 
-      pub sound-as-judged : (tally : Tally) (r : Bool) → nameInForm (nameIn head) ≡ true → tally ≡ tallyOf (rowsFrom m k n) → r ≡ judged head n tally
-          → r ≡ soundAt m i k
-      sound-as-judged tally r h e told = rw (judged-there, h, ← e) told
+      module _ (named : nameInForm (nameIn head) ≡ true) {terms : Terms} (terms-are : terms ≡ termsIn head) where
+        pub terms-wrong : termsFit terms ≡ false → false ≡ soundAt m i k
+        terms-wrong unfit = sym (judged-there ∙ second-no (nameInForm (nameIn head)) _ (first-no (termsFit (termsIn head)) _ (ap termsFit (sym terms-are) ∙ unfit)))
+
+        pub sound-as-judged : (tally : Tally) (r : Bool) → termsFit terms ≡ true → Tallied terms (rowsFrom m k n) tally → r ≡ judged head n tally
+            → r ≡ soundAt m i k
+        sound-as-judged tally r fit found told =
+            let alike = judged-alike head n terms (rowsFrom m k n) tally found in
+            and-true _ _ _ named
+            (and-true _ _ _ (ap termsFit (sym terms-are) ∙ fit) (told ∙ alike ∙ ap (λ (one : Terms). judged head n (tallyOf one (rowsFrom m k n))) terms-are))
+            ∙ sym judged-there
 
 module _ (head : List ℕ) (money : Money) (need : ℕ) where
   abbrev accepted : ℕ

@@ -2,9 +2,8 @@
 -- Assumes nothing.
 use mathlib.Core.Path.{_≡_, refl, ap}
 use mathlib.Core.Bool.{true}
-use mathlib.Core.List.{List, [], _∷_}
-use Prim.Native.Nat.{ℕ, zero, suc, _+_, _-_, _≤_, _<_}
-use native.Mathlib.Numerals.{add-one}
+use mathlib.Core.List.{List}
+use Prim.Native.Nat.{ℕ, zero, suc, _+_, _≤_}
 use native.Mathlib.Omega.{arith}
 use borrow.Author.Tests.{leb-true}
 use lib.ListN.{length}
@@ -12,8 +11,7 @@ use Rattle.model.specs.Shipment.{mostShipments, mostRows}
 use Rattle.model.specs.Book.{rowsIn}
 use Rattle.model.specs.Sound.{shipmentsSound, sound}
 use Rattle.model.proofs.SoundParts.{halves}
-use Rattle.memory.specs.Layout.{size, rowBytes}
-use Rattle.memory.specs.Rows.{rowOf}
+use Rattle.memory.specs.Layout.{size}
 use Rattle.memory.specs.Heads.{shipmentIn}
 use Rattle.memory.specs.Read.{rowsFrom, ordersAt, shipmentsFrom, flagsFrom, shipmentsIn, bookIn, soundIn}
 
@@ -22,17 +20,6 @@ module _ (m : List ℕ) where
   unfolding rowsFrom
   rows-many k zero = refl
   rows-many k (suc n) = ap suc (rows-many (suc k) n)
-
-  -- the first of the rows that are left, and none
-  pub rows-on : (i left : ℕ) → 0 < left → rowsFrom m i left ≡ rowOf (rowBytes m i) ∷ rowsFrom m (i + 1) (left - 1)
-  unfolding rowsFrom
-  rows-on i zero more = absurd (omega arith)
-  rows-on i (suc n) more = let less : suc n - 1 ≡ n = omega arith in rw (less, add-one)
-
-  pub rows-done : (i left : ℕ) → left ≤ 0 → rowsFrom m i left ≡ []
-  unfolding rowsFrom
-  rows-done i zero done = refl
-  rows-done i (suc n) done = absurd (omega arith)
 
   pub shipments-many : (i k n : ℕ) → length (shipmentsFrom m i k n) ≡ n
   unfolding shipmentsFrom

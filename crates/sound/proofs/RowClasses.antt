@@ -1,5 +1,4 @@
--- What the joined classes of a shipment's rows tell of them, with the number of amounts that are out of range: whether all are sound, and whether any
--- is Faulty.
+-- What the joined classes of a shipment's rows tell of them, where each is charged its fee: whether all are sound, and whether any is Faulty.
 -- Assumes nothing.
 use mathlib.Core.Path.{_≡_, refl, sym, ap, _∙_}
 use mathlib.Core.Bool.{Bool, true, false, not, cond, _&&_, _||_, false≢true, or-false, or-assoc}
@@ -9,17 +8,17 @@ use native.Mathlib.Omega.{arith}
 use borrow.Author.Tests.{eqb-true, eqb-false, eq-eqb, ne-eqb, ltb-true, ltb-false, lt-ltb, le-ltb}
 use lib.Bits.{bitOr, or-lt, or-step, or-add-and, and-le-l, and-le-r}
 use lib.Dec.{eqb, ltb}
-use Rattle.text.specs.Bytes.{between}
-use Rattle.text.proofs.Branches.{both-yes, both-ways, either-way}
-use Rattle.money.specs.Money.{orderCap}
-use Rattle.model.specs.Shipment.{isPaired, onlyIf, sumOver, isFaulty, anyFaulty}
-use Rattle.model.specs.Sound.{faultInRange, beforePairing, rowSound, rowsSound}
+use Rattle.text.proofs.Branches.{and-left, and-right, both-yes, both-ways, either-way}
+use Rattle.fee.specs.declared.Terms.{Terms}
+use Rattle.epe.specs.Profile.{each}
+use Rattle.model.specs.Shipment.{isPaired, onlyIf, isFaulty, anyFaulty}
+use Rattle.model.specs.Sound.{faultInRange, beforePairing, rowCharged, rowSound, rowsSound}
 use Rattle.model.specs.declared.Row.{Row}
 use Rattle.model.specs.declared.Stage.{Stage}
 use Rattle.model.specs.declared.State.{State}
 use Rattle.model.proofs.SoundParts.{halves}
 use Rattle.memory.specs.Inner.Classes.{classOf}
-use Rattle.sound.specs.Inner.Tally.{outIn, joined}
+use Rattle.sound.specs.Inner.Tally.{joined}
 
 -- what is joined is no less than its parts, and below 2 or 4 where they are
 join-first : (a b : ℕ) → a ≤ bitOr a b
@@ -70,75 +69,66 @@ class-faulty false true false = refl
 class-faulty false false true = refl
 class-faulty false false false = refl
 
--- the amount's
-none-out : (t : Bool) → onlyIf (not t) 1 ≡ 0 → t ≡ true
-none-out true h = refl
-none-out false h = absurd (omega arith)
-
-module _ (stage : Stage) (paired : Bool) (e : isPaired stage ≡ paired) where
+module _ (terms : Terms) (stage : Stage) (paired : Bool) (e : isPaired stage ≡ paired) where
   state-fits : (state : State) → ltb (classOf state) (cond paired 4 2) ≡ (faultInRange state && (isPaired stage || beforePairing state))
   state-fits state = rw e (class-fits (isFaulty state) (faultInRange state) (beforePairing state) paired)
 
-  row-low : (row : Row) → rowSound stage row ≡ true → (classOf (row .state) < cond paired 4 2) × (outIn row ≡ 0)
+  row-low : (row : Row) → rowSound terms stage row ≡ true → (classOf (row .state) < cond paired 4 2) × (rowCharged terms row ≡ true)
   unfolding rowSound
-  row-low row h =
-      let fits : between 1 orderCap (row .amount .0) ≡ true = search halves in
-      (ltb-true _ _ (state-fits (row .state) ∙ search halves), ap (λ t. onlyIf (not t) 1) fits)
+  row-low row h = (ltb-true _ _ (state-fits (row .state) ∙ search halves), search halves)
 
-  low-row : (row : Row) → classOf (row .state) < cond paired 4 2 → outIn row ≡ 0 → rowSound stage row ≡ true
+  low-row : (row : Row) → classOf (row .state) < cond paired 4 2 → rowCharged terms row ≡ true → rowSound terms stage row ≡ true
   unfolding rowSound
-  low-row row low fits = both-yes _ _ (none-out (between 1 orderCap (row .amount .0)) fits) (sym (state-fits (row .state)) ∙ lt-ltb _ _ low)
+  low-row row low charged = both-yes _ _ charged (sym (state-fits (row .state)) ∙ lt-ltb _ _ low)
 
-  rows-low : (classes : ℕ) (rows : List Row) → classes < cond paired 4 2 → rowsSound stage rows ≡ true
-      → (joined classes rows < cond paired 4 2) × (sumOver outIn rows ≡ 0)
-  unfolding rowsSound
+  rows-low : (classes : ℕ) (rows : List Row) → classes < cond paired 4 2 → rowsSound terms stage rows ≡ true
+      → (joined classes rows < cond paired 4 2) × (each (rowCharged terms) rows ≡ true)
+  unfolding rowsSound each
   rows-low classes [] low h = (low, refl)
   rows-low classes (row ∷ rows) low h =
       let first = row-low row (search halves) in
       let rest = rows-low _ rows (join-low paired classes (classOf (row .state)) low (first .0)) (search halves) in
-      (rest .0, omega (arith, first .1, rest .1))
+      (rest .0, both-yes (rowCharged terms row) _ (first .1) (rest .1))
 
-  low-rows : (classes : ℕ) (rows : List Row) → joined classes rows < cond paired 4 2 → sumOver outIn rows ≡ 0 → rowsSound stage rows ≡ true
-  unfolding rowsSound
-  low-rows classes [] low fits = refl
-  low-rows classes (row ∷ rows) low fits =
+  low-rows : (classes : ℕ) (rows : List Row) → joined classes rows < cond paired 4 2 → each (rowCharged terms) rows ≡ true → rowsSound terms stage rows ≡ true
+  unfolding rowsSound each
+  low-rows classes [] low charged = refl
+  low-rows classes (row ∷ rows) low charged =
       let class = classOf (row .state) in
       let least = joined-least (bitOr classes class) rows in
-      both-yes _ _ (low-row row (omega (arith, join-second classes class)) (omega arith)) (low-rows (bitOr classes class) rows low (omega arith))
+      both-yes _ _ (low-row row (omega (arith, join-second classes class)) (and-left (rowCharged terms row) (each (rowCharged terms) rows) charged))
+      (low-rows (bitOr classes class) rows low (and-right (rowCharged terms row) (each (rowCharged terms) rows) charged))
 
 -- as code asks it
-abbrev fit : Bool → ℕ → ℕ → Bool
-fit paired classes out = cond (ltb 0 out) false (cond paired (ltb classes 4) (ltb classes 2))
+abbrev fit : Bool → ℕ → Bool → Bool
+fit paired classes charged = cond charged (cond paired (ltb classes 4) (ltb classes 2)) false
 
-low-fit : (paired : Bool) (classes out : ℕ) → classes < cond paired 4 2 → out ≡ 0 → fit paired classes out ≡ true
-low-fit true classes out low none = rw (le-ltb 0 out (omega arith)) (lt-ltb classes 4 low)
-low-fit false classes out low none = rw (le-ltb 0 out (omega arith)) (lt-ltb classes 2 low)
+low-fit : (paired : Bool) (classes : ℕ) (charged : Bool) → classes < cond paired 4 2 → charged ≡ true → fit paired classes charged ≡ true
+low-fit true classes charged low h = rw h (lt-ltb classes 4 low)
+low-fit false classes charged low h = rw h (lt-ltb classes 2 low)
 
-fit-low : (paired : Bool) (classes out : ℕ) → fit paired classes out ≡ true → (classes < cond paired 4 2) × (out ≡ 0)
-fit-low paired classes out h = by (ltb 0 out) refl paired h
-  where
-    by : (t : Bool) → ltb 0 out ≡ t → (paired : Bool) → cond t false (cond paired (ltb classes 4) (ltb classes 2)) ≡ true
-        → (classes < cond paired 4 2) × (out ≡ 0)
-    by true some paired h = absurd (false≢true h)
-    by false none true h = (ltb-true classes 4 h, omega (arith, ltb-false 0 out none))
-    by false none false h = (ltb-true classes 2 h, omega (arith, ltb-false 0 out none))
+fit-low : (paired : Bool) (classes : ℕ) (charged : Bool) → fit paired classes charged ≡ true → (classes < cond paired 4 2) × (charged ≡ true)
+fit-low true classes true h = (ltb-true classes 4 h, refl)
+fit-low false classes true h = (ltb-true classes 2 h, refl)
+fit-low paired classes false h = absurd (false≢true h)
 
-pub rows-fit : (stage : Stage) (rows : List Row) → rowsSound stage rows ≡ fit (isPaired stage) (joined 0 rows) (sumOver outIn rows)
-rows-fit stage rows = by (isPaired stage) refl
+pub rows-fit : (terms : Terms) (stage : Stage) (rows : List Row)
+    → rowsSound terms stage rows ≡ fit (isPaired stage) (joined 0 rows) (each (rowCharged terms) rows)
+rows-fit terms stage rows = by (isPaired stage) refl
   where
     begin : (paired : Bool) → 0 < cond paired 4 2
     begin true = omega arith
     begin false = omega arith
 
-    by : (paired : Bool) → isPaired stage ≡ paired → rowsSound stage rows ≡ fit paired (joined 0 rows) (sumOver outIn rows)
+    by : (paired : Bool) → isPaired stage ≡ paired → rowsSound terms stage rows ≡ fit paired (joined 0 rows) (each (rowCharged terms) rows)
     by paired e =
         both-ways _ _
         (λ h.
-        let low = rows-low stage paired e 0 rows (begin paired) h in
-        low-fit paired (joined 0 rows) (sumOver outIn rows) (low .0) (low .1))
+        let low = rows-low terms stage paired e 0 rows (begin paired) h in
+        low-fit paired (joined 0 rows) (each (rowCharged terms) rows) (low .0) (low .1))
         (λ h.
-        let low = fit-low paired (joined 0 rows) (sumOver outIn rows) h in
-        low-rows stage paired e 0 rows (low .0) (low .1))
+        let low = fit-low paired (joined 0 rows) (each (rowCharged terms) rows) h in
+        low-rows terms stage paired e 0 rows (low .0) (low .1))
 
 -- the lowest bit
 odd-join : (a b : ℕ) → eqb (bitOr a b % 2) 1 ≡ (eqb (a % 2) 1 || eqb (b % 2) 1)

@@ -1,5 +1,6 @@
 // Whether lent memory is a sound book, judged in one pass over its heads and rows.
 mod apart;
+mod charges;
 mod shipment;
 mod tally;
 
@@ -7,7 +8,6 @@ use crate::apart::are_apart;
 use crate::shipment::are_sound;
 use memory::MOST_SHIPMENTS;
 use memory::SIZE;
-use memory::class::class_table;
 use memory::shipments;
 ghost use mathlib.Core.Path.{_≡_};
 ghost use Rattle.memory.specs.Read.{soundIn};
@@ -19,7 +19,6 @@ pub fn is_sound(memory: &[u8]) -> bool
     if memory.len() < SIZE {
         return false;
     }
-    let table = class_table();
     let n = shipments(memory);
-    n <= MOST_SHIPMENTS && (are_sound(memory, n, &table) && are_apart(memory, n))
+    n <= MOST_SHIPMENTS && (are_sound(memory, n) && are_apart(memory, n))
 }

@@ -4,10 +4,10 @@ use crate::tally::OUT_OF_RANGE;
 use crate::tally::Tally;
 use crate::tally::has_faulty;
 use crate::tally::tally_by;
+use fee::Rate;
+use fee::Terms;
 use memory::MOST_ROWS;
 use memory::head::accepted;
-use memory::head::fee;
-use memory::head::fees;
 use memory::head::has_flags_in_form;
 use memory::head::has_go_ahead;
 use memory::head::has_sums_in_range;
@@ -16,30 +16,30 @@ use memory::head::is_paired;
 use memory::head::is_waiting;
 use memory::head::orders;
 use memory::head::returned;
+use memory::head::terms;
 use memory::name::has_name_in_form;
 use money::Fee;
 use money::Sum;
 ghost use mathlib.Core.Path.{_≡_};
 ghost use Prim.Native.Nat.{_≤_, _<_};
 ghost use lib.ListN.{length};
-ghost use Rattle.money.specs.Money.{fee, isOrderFee, WithinSum, sumOf, groszeIn, moneyOfSum};
+ghost use Rattle.money.specs.Money.{WithinSum, sumOf, groszeIn, moneyOfSum};
+ghost use Rattle.fee.specs.Fee.{termsFit};
 ghost use Rattle.model.specs.Shipment.{mostShipments, mostRows, onlyIf};
 ghost use Rattle.memory.specs.Layout.{size, IsHead};
-ghost use Rattle.memory.specs.Heads.{feeIn};
-ghost use Rattle.memory.specs.Inner.Classes.{classTable};
 ghost use Rattle.sound.specs.Inner.Tally.{pairedIn, rowsFit, goAheadFits, isCovered, moneyFits, moneysFit, judged};
 ghost use Rattle.sound.specs.Inner.Walk.{soundAt, soundFrom};
 
 // Are n shipments sound, each by itself?
-pub fn are_sound(memory: &[u8], n: usize, table: &[u8]) -> bool
-    requires { ⌜ (n ≤ mostShipments) × (size ≤ length (now memory)) × (now table ≡ classTable) ⌝ }
+pub fn are_sound(memory: &[u8], n: usize) -> bool
+    requires { ⌜ (n ≤ mostShipments) × (size ≤ length (now memory)) ⌝ }
     ensures { λ r. ⌜ r ≡ soundFrom (now (memory .entry)) 0 0 n ⌝ }
 {
     let mut i = 0;
     let mut k = 0;
     let mut left = n;
     while 0 < left {
-        if !is_sound_at(memory, i, k, table) {
+        if !is_sound_at(memory, i, k) {
             return false;
         }
         k += orders(head_bytes(memory, i)) as usize;
@@ -50,8 +50,8 @@ pub fn are_sound(memory: &[u8], n: usize, table: &[u8]) -> bool
 }
 
 // Is the shipment of head i sound, its rows from the k-th on?
-fn is_sound_at(memory: &[u8], i: usize, k: usize, table: &[u8]) -> bool
-    requires { ⌜ (i < mostShipments) × (k ≤ mostRows) × (size ≤ length (now memory)) × (now table ≡ classTable) ⌝ }
+fn is_sound_at(memory: &[u8], i: usize, k: usize) -> bool
+    requires { ⌜ (i < mostShipments) × (k ≤ mostRows) × (size ≤ length (now memory)) ⌝ }
     ensures { λ r. ⌜ r ≡ soundAt (now (memory .entry)) i k ⌝ }
 {
     let head = head_bytes(memory, i);
@@ -65,26 +65,28 @@ fn is_sound_at(memory: &[u8], i: usize, k: usize, table: &[u8]) -> bool
     if !has_name_in_form(head) {
         return false;
     }
-    judge(head, n, tally_by(memory, k, n as usize, table))
+    let terms = terms(head);
+    if !do_terms_fit(terms) {
+        return false;
+    }
+    judge(head, n, tally_by(memory, k, n as usize, terms))
 }
 
-// Is a shipment of n orders sound, but for its name?
+// Are the flat part and the rate in range?
+fn do_terms_fit(terms: Terms) -> bool
+    ensures { λ r. ⌜ r ≡ termsFit terms ⌝ }
+{
+    Fee::is_order(terms.flat.0) && Rate::is_rate(terms.rate.0)
+}
+
+// Is a shipment of n orders sound, but for its name and its terms?
 fn judge(head: &[u8], n: u64, tally: Tally) -> bool
-    requires { ⌜ IsHead (now head) × (n ≤ mostRows) × WithinSum (tally .amounts .0) ⌝ }
+    requires { ⌜ IsHead (now head) × WithinSum (tally .charges .amounts .0) × WithinSum (tally .charges .fees .0) ⌝ }
     ensures { λ r. ⌜ r ≡ judged (now (head .entry)) n tally ⌝ }
 {
-    is_fee_in_range(head)
-        && (1 <= n
-            && (do_rows_fit(head, tally)
-                && (does_go_ahead_fit(head, tally) && do_moneys_fit(head, n, tally))))
-}
-
-// Is the fee in range?
-fn is_fee_in_range(head: &[u8]) -> bool
-    requires { ⌜ IsHead (now head) ⌝ }
-    ensures { λ r. ⌜ r ≡ isOrderFee (feeIn (now (head .entry))) ⌝ }
-{
-    Fee::is_order(fee(head).0)
+    1 <= n
+        && (do_rows_fit(head, tally)
+            && (does_go_ahead_fit(head, tally) && do_moneys_fit(head, tally)))
 }
 
 // May the shipment, Paired or not, have such rows?
@@ -92,7 +94,7 @@ fn do_rows_fit(head: &[u8], tally: Tally) -> bool
     requires { ⌜ IsHead (now head) ⌝ }
     ensures { λ r. ⌜ r ≡ rowsFit (now (head .entry)) tally ⌝ }
 {
-    if 0 < tally.out {
+    if !tally.charges.charged {
         return false;
     }
     if is_paired(head) {
@@ -116,13 +118,14 @@ fn does_go_ahead_fit(head: &[u8], tally: Tally) -> bool
     true
 }
 
-// Do the sums of both moneys fit a shipment of n orders?
-fn do_moneys_fit(head: &[u8], n: u64, tally: Tally) -> bool
-    requires { ⌜ IsHead (now head) × (n ≤ mostRows) × WithinSum (tally .amounts .0) ⌝ }
-    ensures { λ r. ⌜ r ≡ moneysFit (now (head .entry)) n tally ⌝ }
+// Do the sums of both moneys fit?
+fn do_moneys_fit(head: &[u8], tally: Tally) -> bool
+    requires { ⌜ IsHead (now head) × WithinSum (tally .charges .amounts .0) × WithinSum (tally .charges .fees .0) ⌝ }
+    ensures { λ r. ⌜ r ≡ moneysFit (now (head .entry)) tally ⌝ }
 {
-    let amounts = tally.amounts;
-    does_money_fit(head, Sum::Amounts(amounts)) && does_money_fit(head, Sum::Fees(fees(head, n)))
+    let amounts = tally.charges.amounts;
+    let fees = tally.charges.fees;
+    does_money_fit(head, Sum::Amounts(amounts)) && does_money_fit(head, Sum::Fees(fees))
 }
 
 // Do the sums of a money fit, for what is needed of it?

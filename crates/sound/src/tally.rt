@@ -1,18 +1,16 @@
-// The rows of a shipment, taken together for its soundness.
+// The rows of a shipment, taken together for its soundness: column by column, and no loop leaves before its end, so that many rows are taken at a time.
+use crate::charges::Charges;
+use crate::charges::charges_in;
+use fee::Terms;
 use memory::class::class;
-use memory::row::amount;
-use memory::row::row_bytes;
-use money::Amount;
 ghost use mathlib.Core.Path.{_≡_};
-ghost use Prim.Native.Nat.{_+_, _*_, _≤_, _<_, _^_};
+ghost use Prim.Native.Nat.{_+_, _≤_};
 ghost use lib.ListN.{length};
-ghost use Rattle.money.specs.Money.{WithinSum};
+ghost use Rattle.fee.specs.Fee.{TermsFit};
 ghost use Rattle.model.specs.Shipment.{mostRows};
-ghost use Rattle.memory.specs.Layout.{size, IsRow};
-ghost use Rattle.memory.specs.Rows.{rowOf};
+ghost use Rattle.memory.specs.Layout.{size};
 ghost use Rattle.memory.specs.Read.{rowsFrom};
-ghost use Rattle.memory.specs.Inner.Classes.{classTable};
-ghost use Rattle.sound.specs.Inner.Tally.{tallied, tallyOf, faultyIn};
+ghost use Rattle.sound.specs.Inner.Tally.{joined, faultyIn, Tallied};
 
 // The classes from here on are of states that only a Paired shipment may have.
 pub const ONLY_PAIRED: u8 = 2;
@@ -20,49 +18,20 @@ pub const ONLY_PAIRED: u8 = 2;
 // The classes from here on are of faults out of range, and of bytes that say no state.
 pub const OUT_OF_RANGE: u8 = 4;
 
-// What the rows of a shipment come to: the classes of their states joined, their amounts added up, and how many amounts are out of range.
+// What the rows of a shipment come to: the classes of their states joined, and their charges.
 pub struct Tally {
     pub classes: u8,
-    pub amounts: Amount,
-    pub out: u64,
+    pub charges: Charges,
 }
 
-// The tally of the n rows from the k-th on, by the table of classes.
-pub fn tally_by(memory: &[u8], k: usize, n: usize, table: &[u8]) -> Tally
-    requires { ⌜ (k + n ≤ mostRows) × (size ≤ length (now memory)) × (now table ≡ classTable) ⌝ }
-    ensures { λ r. ⌜ (r ≡ tallyOf (rowsFrom (now (memory .entry)) k n)) × (r .amounts .0 ≤ n * 2 ^ 32) ⌝ }
+// The tally of the n rows from the k-th on, on the terms of their fees.
+pub fn tally_by(memory: &[u8], k: usize, n: usize, terms: Terms) -> Tally
+    requires { ⌜ (k + n ≤ mostRows) × (size ≤ length (now memory)) × TermsFit terms ⌝ }
+    ensures { λ r. ⌜ Tallied terms (rowsFrom (now (memory .entry)) k n) r ⌝ }
 {
-    let nothing = Amount::sum(0);
-    let mut tally = Tally {
-        classes: 0,
-        amounts: nothing,
-        out: 0,
-    };
-    let mut i = k;
-    let mut left = n;
-    while 0 < left {
-        tally = with_row(tally, row_bytes(memory, i), table);
-        i += 1;
-        left -= 1;
-    }
-    tally
-}
-
-// The tally with one row more.
-fn with_row(tally: Tally, row: &[u8], table: &[u8]) -> Tally
-    requires { ⌜ IsRow (now row) × (now table ≡ classTable) × WithinSum (tally .amounts .0 + 2 ^ 32) × (tally .out < 2 ^ 60) ⌝ }
-    ensures { λ r. ⌜ (r ≡ tallied tally (rowOf (now (row .entry)))) × (r .amounts .0 < tally .amounts .0 + 2 ^ 32) ⌝ }
-{
-    let amount = amount(row);
-    let fits = Amount::is_order(amount.0);
-    let classes = tally.classes | class(row, table);
-    let amounts = Amount::sum(tally.amounts.0 + amount.0);
-    let out = tally.out + !fits as u64;
-    Tally {
-        classes,
-        amounts,
-        out,
-    }
+    let classes = classes_in(memory, k, n);
+    let charges = charges_in(memory, k, n, terms);
+    Tally { classes, charges }
 }
 
 // Is any of the rows Faulty?
@@ -70,4 +39,20 @@ pub fn has_faulty(tally: Tally) -> bool
     ensures { λ r. ⌜ r ≡ faultyIn tally ⌝ }
 {
     tally.classes % 2 == 1
+}
+
+// The classes of the states of the n rows from the k-th on, joined.
+fn classes_in(memory: &[u8], k: usize, n: usize) -> u8
+    requires { ⌜ (k + n ≤ mostRows) × (size ≤ length (now memory)) ⌝ }
+    ensures { λ r. ⌜ r ≡ joined 0 (rowsFrom (now (memory .entry)) k n) ⌝ }
+{
+    let mut classes = 0;
+    let mut i = k;
+    let mut left = n;
+    while 0 < left {
+        classes |= class(memory, i);
+        i += 1;
+        left -= 1;
+    }
+    classes
 }

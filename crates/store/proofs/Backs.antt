@@ -2,24 +2,25 @@
 -- Assumes nothing.
 use mathlib.Core.Path.{_≡_, refl, sym, _∙_, ap}
 use mathlib.Core.Bool.{true}
-use mathlib.Core.List.{List, [], _∷_, _++_, append-assoc, append-nil}
-use Prim.Native.Nat.{ℕ, suc, _+_, _*_, _-_, _^_, _≤_, _<_}
+use mathlib.Core.List.{List, [], _∷_, _++_, append-assoc}
+use Prim.Native.Nat.{ℕ, suc, _+_, _*_, _^_, _≤_, _<_}
 use native.Mathlib.Omega.{arith}
-use borrow.Author.Tests.{leb-true, eqb-true, le-leb, eq-eqb}
+use borrow.Author.Tests.{eqb-true, le-leb, eq-eqb}
 use lib.Dec.{leb, eqb}
 use lib.ListN.{length, take, drop, length-append}
 use lib.Seq.{take-at}
-use Rattle.text.specs.Bytes.{between}
 use Rattle.text.proofs.Branches.{and-left, and-right, both-yes}
 use Rattle.money.specs.declared.Money.the-variants.{K, O}
+use Rattle.fee.specs.declared.Terms.{Terms}
 use Rattle.model.specs.Shipment.{Shipment, mostShipments, mostRows}
 use Rattle.model.specs.Book.{Book, rowsIn}
-use Rattle.model.specs.Sound.{faultInRange, rowSound, rowsSound, shipmentSound, shipmentsSound}
+use Rattle.model.specs.Sound.{rowsSound, shipmentSound, shipmentsSound}
 use Rattle.model.specs.declared.Row.{Row}
 use Rattle.model.specs.declared.Stage.{Stage}
-use Rattle.model.proofs.SoundParts.{in-order, halves}
+use Rattle.model.proofs.SoundParts.{in-order}
 use Rattle.model.proofs.StaysSound.{book-in-order, first-in-order}
 use Rattle.memory.specs.Number.{numberAt}
+use Rattle.memory.specs.Layout.{headSize, rowSize}
 use Rattle.memory.specs.Rows.{rowOf}
 use Rattle.memory.specs.Heads.{flagsInForm, orderCountIn, shipmentIn}
 use Rattle.memory.specs.Inner.Enter.{bytesOf}
@@ -28,7 +29,7 @@ use Rattle.store.specs.Stored.{form, headOf, orderOf, ordersOf, bodyOf, 
 use Rattle.store.specs.Inner.Walk.{headFrom, countFrom, bodyFrom, rowsFromBytes, bookFrom, isEntry, wholeFrom, flagsFromBytes, isWhole, bookOf, flagsOf}
 use Rattle.store.proofs.Fields.{behind-field, number-there}
 use Rattle.store.proofs.Heads.{HasRoom, orders-back, head-back, head-long, flags-back}
-use Rattle.store.proofs.Orders.{order-long, orders-long, order-back}
+use Rattle.store.proofs.Orders.{order-long, orders-long, first-row, order-back}
 
 -- a sound shipment has room in its fields
 has-room : (s : Shipment) → shipmentSound s ≡ true → length (s .agreed .name .ident .bytes) ≡ 17 → length (s .rows) ≤ mostRows → HasRoom s
@@ -36,7 +37,8 @@ has-room s h held few =
     let parts = in-order s h in
     let k = parts .moneys K in
     let o = parts .moneys O in
-    let fee = parts .fee-fits in
+    let flat = parts .terms-fit .0 in
+    let rate = parts .terms-fit .1 in
     let ak = k .accepted-fits in
     let ao = o .accepted-fits in
     let rk = k .returned-fits in
@@ -44,7 +46,8 @@ has-room s h held few =
     record {
       ident = held;
       date = name-fits (s .agreed .name) (parts .name-in-form) .date;
-      fee = omega arith;
+      flat = omega arith;
+      rate = omega arith;
       orders = omega arith;
       accepted-k = omega arith;
       accepted-o = omega arith;
@@ -52,30 +55,17 @@ has-room s h held few =
       returned-o = omega arith;
     }
 
--- the first of sound rows
-record FirstRow (stage : Stage) (row : Row) (rows : List Row) : Type 0 where
-  small : row .amount .0 < 2 ^ 32
-  known : faultInRange (row .state) ≡ true
-  rest : rowsSound stage rows ≡ true
-
-first-row : (stage : Stage) (row : Row) (rows : List Row) → rowsSound stage (row ∷ rows) ≡ true → FirstRow stage row rows
-unfolding rowsSound rowSound
-first-row stage row rows h =
-    let amount : between 1 999_999_999 (row .amount .0) ≡ true = search halves in
-    let most = leb-true (row .amount .0) 999_999_999 (and-right (leb 1 (row .amount .0)) _ amount) in
-    record { small = omega arith; known = search halves; rest = and-right (rowSound stage row) (rowsSound stage rows) h }
-
 module _ (bytes : List ℕ) where
-  rows-back : (stage : Stage) (rows : List Row) (at : ℕ) (behind : List ℕ) → rowsSound stage rows ≡ true → drop at bytes ≡ ordersOf rows ++ behind
+  rows-back : (terms : Terms) (stage : Stage) (rows : List Row) (at : ℕ) (behind : List ℕ) → rowsSound terms stage rows ≡ true → drop at bytes ≡ ordersOf rows ++ behind
       → rowsFromBytes bytes at (length rows) ≡ rows
   unfolding rowsFromBytes ordersOf
-  rows-back stage [] at behind h is = refl
-  rows-back stage (row ∷ rows) at behind h is =
-      let first = first-row stage row rows h in
+  rows-back terms stage [] at behind h is = refl
+  rows-back terms stage (row ∷ rows) at behind h is =
+      let first = first-row terms stage row rows h in
       let parted = is ∙ append-assoc (orderOf row) (ordersOf rows) behind in
-      let here = ap (λ (l : List ℕ). take 5 l) parted ∙ take-at (orderOf row) (ordersOf rows ++ behind) 5 (order-long row) in
-      let read = ap rowOf (here ∙ sym (append-nil (orderOf row))) ∙ order-back row [] (first .small) (first .known) in
-      let rest = rows-back stage rows (at + 5) behind (first .rest) (behind-field bytes at (orderOf row) (ordersOf rows ++ behind) 5 (order-long row) parted) in
+      let here = ap (λ (l : List ℕ). take rowSize l) parted ∙ take-at (orderOf row) (ordersOf rows ++ behind) rowSize (order-long row) in
+      let read = ap rowOf here ∙ order-back row (first .0) in
+      let rest = rows-back terms stage rows (at + rowSize) behind (first .1) (behind-field bytes at (orderOf row) (ordersOf rows ++ behind) rowSize (order-long row) parted) in
       λ i. read i ∷ rest i
 
 -- the bodies from one on, where the table and they stand
@@ -92,7 +82,7 @@ module _ (bytes : List ℕ) (short : length bytes < 256 ^ 4) where
     parted = is ∙ append-assoc (headOf s) (ordersOf (s .rows)) (bodiesOf more)
 
     head-there : headFrom bytes at ≡ headOf s
-    head-there = ap (λ (l : List ℕ). take 64 l) parted ∙ take-at (headOf s) (ordersOf (s .rows) ++ bodiesOf more) 64 (head-long s room)
+    head-there = ap (λ (l : List ℕ). take headSize l) parted ∙ take-at (headOf s) (ordersOf (s .rows) ++ bodiesOf more) headSize (head-long s room)
 
     count-there : countFrom bytes at ≡ length (s .rows)
     count-there = ap orderCountIn head-there ∙ orders-back s room
@@ -105,11 +95,11 @@ module _ (bytes : List ℕ) (short : length bytes < 256 ^ 4) where
         let d = count-there in
         omega arith
 
-    rows-there : rowsSound (s .stage) (s .rows) ≡ true → rowsFromBytes bytes (at + 64) (countFrom bytes at) ≡ s .rows
+    rows-there : rowsSound (s .agreed .terms) (s .stage) (s .rows) ≡ true → rowsFromBytes bytes (at + headSize) (countFrom bytes at) ≡ s .rows
     rows-there h =
-        ap (λ (c : ℕ). rowsFromBytes bytes (at + 64) c) count-there
-        ∙ rows-back bytes (s .stage) (s .rows) (at + 64) (bodiesOf more) h
-        (behind-field bytes at (headOf s) (ordersOf (s .rows) ++ bodiesOf more) 64 (head-long s room) parted)
+        ap (λ (c : ℕ). rowsFromBytes bytes (at + headSize) c) count-there
+        ∙ rows-back bytes (s .agreed .terms) (s .stage) (s .rows) (at + headSize) (bodiesOf more) h
+        (behind-field bytes at (headOf s) (ordersOf (s .rows) ++ bodiesOf more) headSize (head-long s room) parted)
 
     body-behind : drop (at + length (bodyOf s)) bytes ≡ bodiesOf more
     unfolding bodiesOf
@@ -165,7 +155,7 @@ module _ (bytes : List ℕ) (short : length bytes < 256 ^ 4) where
       record {
         book = (λ j. shipmentIn (head j) (rows-there s more at room is (parts .rows-sound) j) ∷ bookFrom bytes (at + body j) (length more)) ∙ (λ j. head-back s room j ∷ rest .book j);
         whole =
-            both-yes (leb (at + 64) (length bytes)) _ (le-leb (at + 64) (length bytes) (omega arith))
+            both-yes (leb (at + headSize) (length bytes)) _ (le-leb (at + headSize) (length bytes) (omega arith))
             (both-yes (leb (k + countFrom bytes at) mostRows) _ (le-leb (k + countFrom bytes at) mostRows (omega arith))
             (both-yes (leb (at + bodyFrom bytes at) (length bytes)) _ (le-leb (at + bodyFrom bytes at) (length bytes) (omega arith))
             (both-yes (isEntry bytes i at (bodyFrom bytes at)) _ (ap (λ (n : ℕ). isEntry bytes i at n) body ∙ entry)
@@ -183,7 +173,7 @@ contents-long (s ∷ book) start =
     let b = contents-long book (start + length (bodyOf s)) in
     omega arith
 
-pub bodies-long : (book : Book) → shipmentsSound book ≡ true → identsHeld book ≡ true → rowsIn book ≤ mostRows → length (bodiesOf book) ≡ 64 * length book + 5 * rowsIn book
+pub bodies-long : (book : Book) → shipmentsSound book ≡ true → identsHeld book ≡ true → rowsIn book ≤ mostRows → length (bodiesOf book) ≡ headSize * length book + rowSize * rowsIn book
 unfolding bodiesOf identsHeld
 bodies-long [] h held few = refl
 bodies-long (s ∷ book) h held few =
@@ -203,7 +193,7 @@ pub record Unstored (book : Book) : Type 0 where
   pub flags : flagsOf (stored book) ≡ true
   pub same : bookOf (stored book) ≡ book
 
-pub stored-long : (book : Book) → Storable book → length (stored book) ≡ 2 + 72 * length book + 5 * rowsIn book
+pub stored-long : (book : Book) → Storable book → length (stored book) ≡ 2 + (8 + headSize) * length book + rowSize * rowsIn book
 unfolding stored
 stored-long book is =
     let parts = book-in-order book (is .is-sound) in

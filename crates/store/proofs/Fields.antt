@@ -10,10 +10,6 @@ use lib.Seq.{drop-drop, drop-at, drop-cons, getD-drop}
 use Rattle.memory.specs.Number.{numberAt}
 use Rattle.memory.specs.Inner.Enter.{bytesOf}
 
-pub bytes-long : (width n : ℕ) → length (bytesOf width n) ≡ width
-bytes-long zero n = refl
-bytes-long (suc width) n = ap suc (bytes-long width (n / 256))
-
 -- a number read behind a byte, and at a place
 number-skip : (width x : ℕ) (l : List ℕ) (at : ℕ) → numberAt width (x ∷ l) (suc at) ≡ numberAt width l at
 unfolding numberAt

@@ -2,8 +2,8 @@
 -- Assumes nothing.
 use mathlib.Core.Path.{_≡_, refl, sym, _∙_, ap}
 use mathlib.Core.Bool.{Bool, true, false, _&&_}
-use mathlib.Core.List.{List, [], _∷_, _++_, append-nil}
-use Prim.Native.Nat.{ℕ, _+_, _^_, _≤_, _<_}
+use mathlib.Core.List.{List, [], _∷_, _++_}
+use Prim.Native.Nat.{ℕ, _^_, _≤_, _<_}
 use native.Mathlib.Omega.{arith}
 use borrow.Author.Tests.{leb-true, eqb-true, eqb-false}
 use lib.Dec.{eqb, leb}
@@ -55,7 +55,8 @@ flag-byte b h =
 pub record HasRoom (s : Shipment) : Type 0 where
   pub ident : length (s .agreed .name .ident .bytes) ≡ 17
   pub date : s .agreed .name .date .0 < 2 ^ 32
-  pub fee : s .agreed .fee < 2 ^ 32
+  pub flat : s .agreed .terms .flat .0 < 2 ^ 32
+  pub rate : s .agreed .terms .rate .0 < 2 ^ 16
   pub orders : length (s .rows) < 2 ^ 16
   pub accepted-k : accepted K s < 2 ^ 64
   pub accepted-o : accepted O s < 2 ^ 64
@@ -68,10 +69,13 @@ module _ (s : Shipment) (room : HasRoom s) where
   m = headOf s
 
   abbrev last : List ℕ
-  last = bytesOf 8 (returned O s)
+  last = bytesOf 2 (s .agreed .terms .rate .0)
+
+  abbrev from-56 : List ℕ
+  from-56 = bytesOf 8 (returned O s) ++ last
 
   abbrev from-48 : List ℕ
-  from-48 = bytesOf 8 (returned K s) ++ last
+  from-48 = bytesOf 8 (returned K s) ++ from-56
 
   abbrev from-40 : List ℕ
   from-40 = bytesOf 8 (accepted O s) ++ from-48
@@ -86,7 +90,7 @@ module _ (s : Shipment) (room : HasRoom s) where
   from-28 = stageByte (s .stage) ∷ flagByte (s .goAhead) ∷ from-30
 
   abbrev from-24 : List ℕ
-  from-24 = bytesOf 4 (s .agreed .fee) ++ from-28
+  from-24 = bytesOf 4 (s .agreed .terms .flat .0) ++ from-28
 
   abbrev from-22 : List ℕ
   from-22 = s .agreed .name .payment ∷ s .agreed .name .kind ∷ from-24
@@ -114,7 +118,7 @@ module _ (s : Shipment) (room : HasRoom s) where
   at-24 = behind-field m 23 (s .agreed .name .kind ∷ []) from-24 1 refl at-23
 
   at-28 : drop 28 m ≡ from-28
-  at-28 = behind-field m 24 (bytesOf 4 (s .agreed .fee)) from-28 4 refl at-24
+  at-28 = behind-field m 24 (bytesOf 4 (s .agreed .terms .flat .0)) from-28 4 refl at-24
 
   at-29 : drop 29 m ≡ flagByte (s .goAhead) ∷ from-30
   at-29 = behind-field m 28 (stageByte (s .stage) ∷ []) (flagByte (s .goAhead) ∷ from-30) 1 refl at-28
@@ -131,8 +135,11 @@ module _ (s : Shipment) (room : HasRoom s) where
   at-48 : drop 48 m ≡ from-48
   at-48 = behind-field m 40 (bytesOf 8 (accepted O s)) from-48 8 refl at-40
 
-  at-56 : drop 56 m ≡ last
-  at-56 = behind-field m 48 (bytesOf 8 (returned K s)) last 8 refl at-48
+  at-56 : drop 56 m ≡ from-56
+  at-56 = behind-field m 48 (bytesOf 8 (returned K s)) from-56 8 refl at-48
+
+  at-64 : drop 64 m ≡ last
+  at-64 = behind-field m 56 (bytesOf 8 (returned O s)) last 8 refl at-56
 
   -- each field, and the whole
   ident-back : take 17 m ≡ s .agreed .name .ident .bytes
@@ -149,15 +156,19 @@ module _ (s : Shipment) (room : HasRoom s) where
       let date = number-there m 18 4 (s .agreed .name .date .0) from-22 (room .date) at-18 in
       let payment = byte-there m 22 (s .agreed .name .payment) (s .agreed .name .kind ∷ from-24) at-22 in
       let kind = byte-there m 23 (s .agreed .name .kind) from-24 at-23 in
-      let fee = number-there m 24 4 (s .agreed .fee) from-28 (room .fee) at-24 in
+      let flat = number-there m 24 4 (s .agreed .terms .flat .0) from-28 (room .flat) at-24 in
       let stage = ap stageOf (byte-there m 28 (stageByte (s .stage)) (flagByte (s .goAhead) ∷ from-30) at-28) ∙ stage-back (s .stage) in
       let goAhead = ap (λ (b : ℕ). eqb b 1) (byte-there m 29 (flagByte (s .goAhead)) from-30 at-29) ∙ flag-back (s .goAhead) in
       let accepted-k = number-there m 32 8 (accepted K s) from-40 (room .accepted-k) at-32 in
       let accepted-o = number-there m 40 8 (accepted O s) from-48 (room .accepted-o) at-40 in
-      let returned-k = number-there m 48 8 (returned K s) last (room .returned-k) at-48 in
-      let returned-o = number-there m 56 8 (returned O s) [] (room .returned-o) (at-56 ∙ sym (append-nil last)) in
+      let returned-k = number-there m 48 8 (returned K s) from-56 (room .returned-k) at-48 in
+      let returned-o = number-there m 56 8 (returned O s) last (room .returned-o) at-56 in
+      let rate = number-there m 64 2 (s .agreed .terms .rate .0) [] (room .rate) at-64 in
       λ i. record {
-        agreed = record { name = record { ident = record { bytes = ident-back i; len = len i }; date = record { 0 = date i }; payment = payment i; kind = kind i }; fee = fee i };
+        agreed = record {
+          name = record { ident = record { bytes = ident-back i; len = len i }; date = record { 0 = date i }; payment = payment i; kind = kind i };
+          terms = record { flat = record { 0 = flat i }; rate = record { 0 = rate i } };
+        };
         stage = stage i;
         goAhead = goAhead i;
         acceptedSums = record { k = accepted-k i; o = accepted-o i };
@@ -191,8 +202,9 @@ module _ (head : List ℕ) (is-head : IsHead head) (bytes : (j : ℕ) → getD h
   pub head-forth : (rows : List Row) → orderCountIn head ≡ length rows → headOf (shipmentIn head rows) ≡ head
   unfolding headOf shipmentIn
   head-forth rows count =
-      let end : [] ≡ drop 64 head = sym (ap (λ (j : ℕ). drop j head) (sym is-head) ∙ drop-length head) in
-      let f56 = number-then head bytes 8 56 (omega arith) end in
+      let end : [] ≡ drop headSize head = sym (ap (λ (j : ℕ). drop j head) (sym is-head) ∙ drop-length head) in
+      let f64 = number-then head bytes 2 64 (omega arith) end in
+      let f56 = number-then head bytes 8 56 (omega arith) f64 in
       let f48 = number-then head bytes 8 48 (omega arith) f56 in
       let f40 = number-then head bytes 8 40 (omega arith) f48 in
       let f32 = number-then head bytes 8 32 (omega arith) f40 in
@@ -206,11 +218,8 @@ module _ (head : List ℕ) (is-head : IsHead head) (bytes : (j : ℕ) → getD h
       let f17 = byte-then head bytes 17 (omega arith) f18 in
       let stage = stage-byte (getD head 28 0) (leb-true (getD head 28 0) 2 (and-left (leb (getD head 28 0) 2) _ flags)) in
       let flag = flag-byte (getD head 29 0) (leb-true (getD head 29 0) 1 (and-right (leb (getD head 28 0) 2) _ flags)) in
-      let sums = bytesOf 8 (numberAt 8 head 32) ++ (bytesOf 8 (numberAt 8 head 40) ++ (bytesOf 8 (numberAt 8 head 48) ++ bytesOf 8 (numberAt 8 head 56))) in
+      let rate = bytesOf 2 (numberAt 2 head 64) in
+      let sums = bytesOf 8 (numberAt 8 head 32) ++ (bytesOf 8 (numberAt 8 head 40) ++ (bytesOf 8 (numberAt 8 head 48) ++ (bytesOf 8 (numberAt 8 head 56) ++ rate))) in
       let many = sym count in
-      let last = append-nil (bytesOf 8 (numberAt 8 head 56)) in
       (λ i. take 17 head ++ (getD head 17 0 ∷ (bytesOf 4 (numberAt 4 head 18) ++ (getD head 22 0 ∷ getD head 23 0 ∷ (bytesOf 4 (numberAt 4 head 24) ++ (stage i ∷ flag i ∷ (bytesOf 2 (many i) ++ sums)))))))
       ∙ (ap (λ (l : List ℕ). take 17 head ++ l) f17 ∙ take-append-drop 17 head)
-
-  pub head-bytes : (rows : List Row) → orderCountIn head ≡ length rows → length (headOf (shipmentIn head rows)) ≡ headSize
-  head-bytes rows count = ap (λ (l : List ℕ). length l) (head-forth rows count) ∙ is-head

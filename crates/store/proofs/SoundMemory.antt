@@ -14,16 +14,13 @@ use Rattle.text.proofs.Branches.{and-left, and-right, both-yes}
 use Rattle.model.specs.Shipment.{mostShipments, mostRows}
 use Rattle.model.specs.Sound.{sound}
 use Rattle.model.proofs.StaysSound.{book-in-order}
-use Rattle.memory.specs.Layout.{headSize, rowSize, headAt, rowAt, size, headBytes, rowBytes, IsHead}
+use Rattle.memory.specs.Layout.{headSize, headAt, amountAt, feeAt, remainderAt, codeAt, size, headBytes, rowBytes, IsHead, IsRow}
 use Rattle.memory.specs.Heads.{flagsInForm, shipmentIn}
 use Rattle.memory.specs.Read.{ordersAt, shipmentsFrom, flagsFrom, shipmentsIn, bookIn, soundIn, readBook}
+use Rattle.memory.proofs.Parts.{part-long}
+use Rattle.sound.proofs.ReadLaws.{shipments-many}
 use Rattle.book.proofs.Appending.{shipments-alike}
 use Rattle.store.specs.Stored.{identsHeld, Storable}
-
-pub shipments-length : (m : List ℕ) (i k n : ℕ) → length (shipmentsFrom m i k n) ≡ n
-unfolding shipmentsFrom
-shipments-length m i k zero = refl
-shipments-length m i k (suc n) = ap suc (shipments-length m (suc i) (k + ordersAt m i) n)
 
 -- heads that are as they were have their flags
 pub flags-same : (m m′ : List ℕ) (i n : ℕ) → ((j : ℕ) → i ≤ j → j < i + n → headBytes m′ j ≡ headBytes m j) → flagsFrom m′ i n ≡ flagsFrom m i n
@@ -37,7 +34,16 @@ flags-same m m′ i (suc n) heads =
 module _ (m : List ℕ) (enough : size ≤ length m) where
   pub head-size : (i : ℕ) → i < mostShipments → IsHead (headBytes m i)
   unfolding headBytes
-  head-size i few = let left = length-drop (headAt i) m in length-take-le headSize (drop (headAt i) m) (omega arith)
+  head-size i few = part-long m (headAt i) headSize (omega arith)
+
+  pub row-size : (k : ℕ) → k < mostRows → IsRow (rowBytes m k)
+  unfolding rowBytes
+  row-size k few =
+      let amount = part-long m (amountAt k) 4 (omega arith) in
+      let code = part-long m (codeAt k) 1 (omega arith) in
+      let fee = part-long m (feeAt k) 4 (omega arith) in
+      let remainder = part-long m (remainderAt k) 2 (omega arith) in
+      simp length-append (omega arith)
 
   idents-held : (i k n : ℕ) → i + n ≤ mostShipments → identsHeld (shipmentsFrom m i k n) ≡ true
   unfolding shipmentsFrom identsHeld shipmentIn
@@ -65,7 +71,7 @@ module _ (m : List ℕ) (h : soundIn m ≡ true) where
 
   pub few-shipments : n ≤ mostShipments
   unfolding bookIn
-  few-shipments = let few = book-in-order (bookIn m) book-sound .few in let many = shipments-length m 0 0 n in omega arith
+  few-shipments = let few = book-in-order (bookIn m) book-sound .few in let many = shipments-many m 0 0 n in omega arith
 
   pub sound-storable : Storable (bookIn m)
   unfolding bookIn
@@ -84,7 +90,13 @@ module _ (m : List ℕ) (h : soundIn m ≡ true) where
 
     row-before : (r : ℕ) → r < mostRows → rowBytes (m ++ rest) r ≡ rowBytes m r
     unfolding rowBytes
-    row-before r few = let enough = long-enough in part-before (rowAt r) rowSize (omega arith)
+    row-before r few =
+        let enough = long-enough in
+        let amount = part-before (amountAt r) 4 (omega arith) in
+        let code = part-before (codeAt r) 1 (omega arith) in
+        let fee = part-before (feeAt r) 4 (omega arith) in
+        let remainder = part-before (remainderAt r) 2 (omega arith) in
+        λ i. amount i ++ (code i ++ (fee i ++ remainder i))
 
     number-before : shipmentsIn (m ++ rest) ≡ n
     number-before = let enough = long-enough in List·getD-append m rest 0 0 (omega arith)

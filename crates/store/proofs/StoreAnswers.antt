@@ -7,13 +7,15 @@ use Prim.Native.Nat.{ℕ, _+_, _*_, _≤_, _<_}
 use native.Mathlib.Omega.{arith}
 use lib.ListN.{length, getD}
 use Rattle.model.specs.Book.{rowsIn}
+use Rattle.memory.specs.Layout.{headSize, rowSize}
 use Rattle.memory.specs.Read.{shipmentsFrom, shipmentsIn, bookIn, soundIn, readBook}
+use Rattle.sound.proofs.ReadLaws.{shipments-many}
 use Rattle.write.specs.Written.{wrote, leaving, writtenAfter}
 use Rattle.write.proofs.Answers.{alone-short, alone-written}
 use Rattle.store.specs.Stored.{storedInto}
 use Rattle.store.specs.Inner.Raw.{rawStored}
 use Rattle.store.proofs.Backs.{stored-long}
-use Rattle.store.proofs.SoundMemory.{shipments-length, sound-storable}
+use Rattle.store.proofs.SoundMemory.{sound-storable}
 use Rattle.store.proofs.RawBytes.{stored-raw}
 
 pub store-unsound : (m output : List ℕ) → soundIn m ≡ false → leaving output 10 ≡ storedInto (readBook m) output
@@ -21,12 +23,12 @@ unfolding readBook storedInto
 store-unsound m output h = rw h
 
 module _ (m : List ℕ) (small : (j : ℕ) → getD m j 0 < 256) (h : soundIn m ≡ true) where
-  pub store-measured : {n : ℕ} → n ≡ shipmentsIn m → 2 + 72 * n + 5 * rowsIn (shipmentsFrom m 0 0 n) ≡ length (rawStored m)
+  pub store-measured : {n : ℕ} → n ≡ shipmentsIn m → 2 + (8 + headSize) * n + rowSize * rowsIn (shipmentsFrom m 0 0 n) ≡ length (rawStored m)
   unfolding bookIn
   store-measured is =
       let long = stored-long (bookIn m) (sound-storable m h) in
       let raw = ap (λ (l : List ℕ). length l) (stored-raw m small h) in
-      let many = shipments-length m 0 0 (shipmentsIn m) in
+      let many = shipments-many m 0 0 (shipmentsIn m) in
       rw is (omega arith)
 
   by-raw : (output : List ℕ) → writtenAfter [] (rawStored m) output ≡ storedInto (readBook m) output

@@ -7,21 +7,20 @@ use Prim.Native.Nat.{ℕ, zero, suc, _+_, _*_, _-_, _≤_, _<_}
 use native.Mathlib.Omega.{arith}
 use borrow.Author.Tests.{leb-true}
 use lib.Dec.{leb}
-use lib.ListN.{length, getD, take, drop, set, length-append, length-drop, take-append-drop}
-use lib.Seq.{length-take-le, getD-take, getD-drop, take-all, take-add, drop-drop, drop-append-add}
+use lib.ListN.{length, getD, take, drop, set, length-drop}
+use lib.Seq.{length-take-le, getD-take, getD-drop, take-all, take-add, drop-cons}
 use Rattle.model.specs.Shipment.{mostShipments, mostRows}
 use Rattle.model.specs.Book.{rowsIn}
-use Rattle.memory.specs.Layout.{rowSize, rowAt, size, headBytes, rowBytes, IsHead, IsRow}
+use Rattle.memory.specs.Layout.{rowSize, amountAt, feeAt, remainderAt, codeAt, size, headBytes, rowBytes, IsHead, IsRow}
 use Rattle.memory.specs.Read.{ordersAt, shipmentsFrom, flagsFrom, shipmentsIn, bookIn, soundIn}
 use Rattle.memory.specs.Inner.Enter.{bytesOf}
-use Rattle.sound.proofs.ReadLaws.{rows-next}
+use Rattle.sound.proofs.ReadLaws.{shipments-many, rows-next}
 use Rattle.text.proofs.Branches.{and-left, and-right}
 use Rattle.model.proofs.StaysSound.{book-in-order}
 use Rattle.write.specs.Written.{putAt, written}
-use Rattle.write.proofs.Putting.{Left, all-left, piece-fits, piece-put, put-none, put-then, put-length, before-put, from-put, byte-more, whole-left}
+use Rattle.write.proofs.Putting.{Left, all-left, piece-fits, piece-put, put-none, put-then, byte-more, whole-left}
 use Rattle.store.specs.Stored.{form}
 use Rattle.store.specs.Inner.Raw.{rawOrders, rawBodies, rawLength, rawContents, rawStored}
-use Rattle.store.proofs.SoundMemory.{shipments-length}
 
 -- orders
 pub record OrdersPut (output m : List ℕ) (from k n place : ℕ) (now : List ℕ) (done : ℕ) : Type 0 where
@@ -34,100 +33,28 @@ orders-begun output m from k n fits =
     let all : n - 0 ≡ n = omega arith in
     record { far = omega arith; left = rw (here, all) (all-left from (rawOrders m k n) output fits) }
 
-module _ {output m : List ℕ} {from k n place : ℕ} {now : List ℕ} {done : ℕ} (so-far : OrdersPut output m from k n place now done) (more : done < n) (row-long : IsRow (rowBytes m (k + done))) where
-  next-order : Left from (rawOrders m k n) output place (take 5 (rowBytes m (k + done)) ++ rawOrders m (k + (done + 1)) (n - (done + 1))) now
+module _ {output m : List ℕ} {from k n place : ℕ} {now : List ℕ} {done : ℕ} (so-far : OrdersPut output m from k n place now done) (more : done < n)
+    (row-long : IsRow (rowBytes m (k + done))) where
+  next-order : Left from (rawOrders m k n) output place (rowBytes m (k + done) ++ rawOrders m (k + (done + 1)) (n - (done + 1))) now
   unfolding rawOrders
   next-order =
       let left : n - done ≡ suc (n - (done + 1)) = omega arith in
       let row : k + (done + 1) ≡ suc (k + done) = omega arith in
       rw row (rw left at (so-far .left))
 
-  five : length (take 5 (rowBytes m (k + done))) ≡ 5
-  five = length-take-le 5 (rowBytes m (k + done)) (omega (arith, row-long))
-
-  pub order-fits : place + 5 ≤ length now
+  pub order-fits : place + rowSize ≤ length now
   order-fits =
-      let fits = piece-fits (take 5 (rowBytes m (k + done))) (rawOrders m (k + (done + 1)) (n - (done + 1))) next-order in
-      let long = five in
-      omega arith
+      let fits = piece-fits (rowBytes m (k + done)) (rawOrders m (k + (done + 1)) (n - (done + 1))) next-order in
+      omega (arith, row-long)
 
-  pub orders-on : {row : List ℕ} → row ≡ rowBytes m (k + done) → {place′ : ℕ} {now′ : List ℕ} → place′ ≡ place + 5 → now′ ≡ putAt place (take 5 row) now
+  pub orders-on : {place′ : ℕ} {now′ : List ℕ} → place′ ≡ place + rowSize → now′ ≡ putAt place (rowBytes m (k + done)) now
       → OrdersPut output m from k n place′ now′ (done + 1)
-  orders-on is is-place is-now = record {
+  orders-on is-place is-now = record {
     far = omega arith;
     left =
-        piece-put (take 5 (rowBytes m (k + done))) (rawOrders m (k + (done + 1)) (n - (done + 1))) next-order
-        (is-place ∙ ap (λ (j : ℕ). place + j) (sym five)) (is-now ∙ ap (λ (l : List ℕ). putAt place (take 5 l) now) is);
+        piece-put (rowBytes m (k + done)) (rawOrders m (k + (done + 1)) (n - (done + 1))) next-order
+        (is-place ∙ ap (λ (j : ℕ). place + j) (sym row-long)) is-now;
   }
-
--- a text put over another that is not longer
-put-over : (at : ℕ) (over rest output : List ℕ) → length over ≤ length rest → at + length rest ≤ length output
-    → putAt at rest (putAt at over output) ≡ putAt at rest output
-put-over at over rest output less fits =
-    let before = before-put at over output (omega arith) at (omega arith) in
-    let d = length rest - length over in
-    let more : length rest ≡ length over + d = omega arith in
-    let same : at + length over + d ≡ at + length rest = omega arith in
-    let behind =
-    sym (drop-drop (length rest) at (putAt at over output))
-    ∙ ap (λ (l : List ℕ). drop (length rest) l) (from-put at over output (omega arith))
-    ∙ ap (λ (j : ℕ). drop j (over ++ drop (at + length over) output)) more
-    ∙ drop-append-add over (drop (at + length over) output) d
-    ∙ drop-drop d (at + length over) output
-    ∙ ap (λ (j : ℕ). drop j output) same in
-    λ t. before t ++ (rest ++ behind t)
-
--- orders whose rows are put whole, each over the free bytes of the one before it
-module _ (m : List ℕ) (enough : size ≤ length m) where
-  row-size : (k : ℕ) → k < mostRows → IsRow (rowBytes m k)
-  unfolding rowBytes
-  row-size k few = let left = length-drop (rowAt k) m in length-take-le rowSize (drop (rowAt k) m) (omega arith)
-
-  orders-size : (k n : ℕ) → k + n ≤ mostRows → length (rawOrders m k n) ≡ 5 * n
-  unfolding rawOrders
-  orders-size k zero fits = omega arith
-  orders-size k (suc n) fits =
-      let long = length-append (take 5 (rowBytes m k)) (rawOrders m (suc k) n) in
-      let five = length-take-le 5 (rowBytes m k) (omega (arith, row-size k (omega arith))) in
-      let rest = orders-size (suc k) n (omega arith) in
-      omega arith
-
-  module _ {output : List ℕ} {from k n place : ℕ} {now : List ℕ} {done : ℕ} (so-far : OrdersPut output m from k n place now done) (fit : k + n ≤ mostRows) where
-    pub room-left : place + 5 * (n - done) ≤ length now
-    room-left =
-        let far = so-far .far in
-        let there = so-far .left .place in
-        let fits = so-far .left .fits in
-        let long = so-far .left .as-long in
-        let rest = orders-size (k + done) (n - done) (omega arith) in
-        omega arith
-
-    pub orders-over : done + 1 < n → {place′ : ℕ} {now′ row : List ℕ} → row ≡ rowBytes m (k + done) → place′ ≡ place + 5 → now′ ≡ putAt place (take 8 row) now
-        → OrdersPut output m from k n place′ now′ (done + 1)
-    orders-over more {place′} {now′} {row} is is-place is-now =
-        let long = row-size (k + done) (omega arith) in
-        let r = rowBytes m (k + done) in
-        let room = room-left in
-        let five : length (take 5 r) ≡ 5 = length-take-le 5 r (omega (arith, long)) in
-        let three : length (drop 5 r) ≡ 3 = (let left = length-drop 5 r in omega (arith, long)) in
-        let first = putAt place (take 5 r) now in
-        let step = orders-on so-far (omega arith) long refl refl refl in
-        let first-long = put-length place (take 5 r) now (omega arith) in
-        let rest = orders-size (k + (done + 1)) (n - (done + 1)) (omega arith) in
-        let parts : now′ ≡ putAt (place + 5) (drop 5 r) first =
-        is-now ∙ ap (λ (l : List ℕ). putAt place (take 8 l) now) is
-        ∙ ap (λ (l : List ℕ). putAt place l now) (take-all 8 r (omega (arith, long)) ∙ sym (take-append-drop 5 r))
-        ∙ sym (put-then place (take 5 r) (drop 5 r) now (omega arith))
-        ∙ ap (λ (j : ℕ). putAt (place + j) (drop 5 r) first) five in
-        rw (is-place, parts) (record {
-          far = step .far;
-          left = record {
-            place = step .left .place;
-            fits = step .left .fits;
-            as-long = put-length (place + 5) (drop 5 r) first (omega arith) ∙ step .left .as-long;
-            makes = put-over (place + 5) (drop 5 r) (rawOrders m (k + (done + 1)) (n - (done + 1))) first (omega arith) (omega arith) ∙ step .left .makes;
-          };
-        })
 
 -- some bytes of a text, put byte after byte
 module _ (at : ℕ) (output text : List ℕ) (from : ℕ) where
@@ -160,19 +87,49 @@ module _ (at : ℕ) (output text : List ℕ) (from : ℕ) where
           let next : j + 1 ≡ suc j = omega arith in
           ap (λ (l : List ℕ). set l (at + suc j) (getD text (from + suc j) 0)) (go j (omega arith) ∙ ap (λ (i : ℕ). putAt at (take i part) output) next) ∙ more (suc j) upto
 
--- a head, eight bytes after eight
-pub eight-more : (at i : ℕ) (head output : List ℕ) → IsHead head → at + length head ≤ length output → i < 8
-    → putAt (at + 8 * i) (take 8 (drop (8 * i) head)) (putAt at (take (8 * i) head) output) ≡ putAt at (take (8 * (i + 1)) head) output
-eight-more at i head output is-head fits more =
-    let first = take (8 * i) head in
-    let second = take 8 (drop (8 * i) head) in
-    let front : length first ≡ 8 * i = length-take-le (8 * i) head (omega (arith, is-head)) in
-    let left = length-drop (8 * i) head in
-    let eight : length second ≡ 8 = length-take-le 8 (drop (8 * i) head) (omega (arith, is-head)) in
-    let next : 8 * i + 8 ≡ 8 * (i + 1) = omega arith in
+-- some bytes of memory, one by one
+module _ (m : List ℕ) (at : ℕ) where
+  abbrev bytesOn : ℕ → ℕ → List ℕ
+  bytesOn q zero = []
+  bytesOn q (suc n) = getD m (at + q) 0 ∷ bytesOn (suc q) n
+
+  abbrev pub bytesFrom : ℕ → List ℕ
+  bytesFrom n = getD m at 0 ∷ bytesOn 1 n
+
+  bytes-on : (q n : ℕ) → at + q + n ≤ length m → bytesOn q n ≡ take n (drop (at + q) m)
+  bytes-on q zero within = refl
+  bytes-on q (suc n) within =
+      let next : at + suc q ≡ suc (at + q) = omega arith in
+      rw (drop-cons m (at + q) 0 (omega arith))
+      (ap (λ (l : List ℕ). getD m (at + q) 0 ∷ l) (bytes-on (suc q) n (omega arith) ∙ ap (λ (p : ℕ). take n (drop p m)) next))
+
+  bytes-from : (n : ℕ) → at + suc n ≤ length m → bytesFrom n ≡ take (suc n) (drop at m)
+  bytes-from n within = let here : at + 0 ≡ at = omega arith in rw here at (bytes-on 0 (suc n) (omega arith))
+
+-- the bytes of a row, column after column
+pub gathered : (m : List ℕ) (k : ℕ) → k < mostRows → size ≤ length m
+    → bytesFrom m (amountAt k) 3 ++ (bytesFrom m (codeAt k) 0 ++ (bytesFrom m (feeAt k) 3 ++ bytesFrom m (remainderAt k) 1)) ≡ rowBytes m k
+unfolding rowBytes
+gathered m k few enough =
+    let amount = bytes-from m (amountAt k) 3 (omega arith) in
+    let code = bytes-from m (codeAt k) 0 (omega arith) in
+    let fee = bytes-from m (feeAt k) 3 (omega arith) in
+    let remainder = bytes-from m (remainderAt k) 1 (omega arith) in
+    λ i. amount i ++ (code i ++ (fee i ++ remainder i))
+
+-- a head, eleven bytes after eleven
+pub eleven-more : (at i : ℕ) (head output : List ℕ) → IsHead head → at + length head ≤ length output → i < 6
+    → putAt (at + 11 * i) (take 11 (drop (11 * i) head)) (putAt at (take (11 * i) head) output) ≡ putAt at (take (11 * (i + 1)) head) output
+eleven-more at i head output is-head fits more =
+    let first = take (11 * i) head in
+    let second = take 11 (drop (11 * i) head) in
+    let front : length first ≡ 11 * i = length-take-le (11 * i) head (omega (arith, is-head)) in
+    let left = length-drop (11 * i) head in
+    let eleven : length second ≡ 11 = length-take-le 11 (drop (11 * i) head) (omega (arith, is-head)) in
+    let next : 11 * i + 11 ≡ 11 * (i + 1) = omega arith in
     ap (λ (j : ℕ). putAt (at + j) second (putAt at first output)) (sym front)
     ∙ put-then at first second output (omega (arith, is-head))
-    ∙ ap (λ (l : List ℕ). putAt at l output) (sym (take-add (8 * i) 8 head) ∙ ap (λ (j : ℕ). take j head) next)
+    ∙ ap (λ (l : List ℕ). putAt at l output) (sym (take-add (11 * i) 11 head) ∙ ap (λ (j : ℕ). take j head) next)
 
 -- what was put when nothing is left
 pub all-put : {from : ℕ} {whole output now : List ℕ} {place : ℕ} → Left from whole output place [] now → (place ≡ from + length whole) × (now ≡ putAt from whole output)
@@ -237,7 +194,7 @@ bodies-done {n = n} {i = i} so-far end = let far = so-far .far in let none : n -
 -- the contents table
 pub record ContentsPut (output m : List ℕ) (from n place start : ℕ) (now : List ℕ) (i : ℕ) : Type 0 where
   pub far : i ≤ n
-  pub small : start ≤ 2 + 8 * n + i * 400_000
+  pub small : start ≤ 2 + 8 * n + i * 800_000
   pub left : Left from (rawContents m 0 (2 + 8 * n) n) output place (rawContents m i start (n - i)) now
 
 pub contents-begun : (output m : List ℕ) (from n : ℕ) {start : ℕ} → start ≡ 2 + 8 * n → from + length (rawContents m 0 (2 + 8 * n) n) ≤ length output
@@ -259,7 +216,7 @@ module _ {output m : List ℕ} {from n place start : ℕ} {now : List ℕ} {i : 
   pub entry-fits : place + 8 ≤ length now
   entry-fits = piece-fits entry (rawContents m (suc i) (start + rawLength m i) (n - (i + 1))) next-entry
 
-  pub contents-on : {long place′ : ℕ} {now′ : List ℕ} → long ≡ rawLength m i → long < 400_000 → place′ ≡ place + 8 → now′ ≡ putAt place (bytesOf 4 start ++ bytesOf 4 long) now
+  pub contents-on : {long place′ : ℕ} {now′ : List ℕ} → long ≡ rawLength m i → long < 800_000 → place′ ≡ place + 8 → now′ ≡ putAt place (bytesOf 4 start ++ bytesOf 4 long) now
       → ContentsPut output m from n place′ (start + long) now′ (i + 1)
   contents-on {long} is short is-place is-now =
       let next : i + 1 ≡ suc i = omega arith in
@@ -308,7 +265,7 @@ adding-done {n = n} {i = i} so-far end =
 
 -- the whole of a sound book
 abbrev pub whole-of : List ℕ → ℕ → List ℕ
-whole-of m n = (1 ∷ n ∷ []) ++ (rawContents m 0 (2 + 8 * n) n ++ rawBodies m 0 0 n)
+whole-of m n = (form ∷ n ∷ []) ++ (rawContents m 0 (2 + 8 * n) n ++ rawBodies m 0 0 n)
 
 module _ (m : List ℕ) (n : ℕ) (output : List ℕ) (is : n ≡ shipmentsIn m) where
   raw-is : whole-of m n ≡ rawStored m
@@ -326,7 +283,7 @@ unfolding soundIn bookIn
 book-lent m h =
     let rest = and-right (leb size (length m)) _ h in
     let few = book-in-order (bookIn m) (and-right (flagsFrom m 0 (shipmentsIn m)) _ rest) .few in
-    let many = shipments-length m 0 0 (shipmentsIn m) in
+    let many = shipments-many m 0 0 (shipmentsIn m) in
     (leb-true size (length m) (and-left (leb size (length m)) _ h), omega arith)
 
 pub book-rows : (m : List ℕ) (n : ℕ) → soundIn m ≡ true → n ≡ shipmentsIn m → rowsIn (shipmentsFrom m 0 0 n) ≤ mostRows

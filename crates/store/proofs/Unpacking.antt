@@ -8,12 +8,12 @@ use native.Mathlib.Omega.{arith}
 use borrow.Author.Tests.{leb-true, le-leb, lt-leb}
 use lib.Dec.{leb, eqb}
 use lib.ListN.{length, getD, take, drop, set, length-set}
-use lib.Seq.{getD-set-same, take-all}
+use lib.Seq.{getD-set-same}
 use Rattle.text.proofs.Branches.{and-true, first-no, and-left, and-right, both-ways}
 use Rattle.model.specs.Shipment.{Shipment, mostShipments, mostRows}
 use Rattle.model.specs.Book.{Book, rowsIn}
 use Rattle.model.specs.declared.Row.{Row}
-use Rattle.memory.specs.Layout.{size, headAt, rowAt, headBytes, rowBytes, IsHead}
+use Rattle.memory.specs.Layout.{headSize, rowSize, size, headAt, headBytes, rowBytes, IsHead}
 use Rattle.memory.specs.Rows.{rowOf}
 use Rattle.memory.specs.Heads.{flagsInForm, orderCountIn, shipmentIn}
 use Rattle.memory.specs.Read.{rowsFrom, shipmentAt, shipmentsFrom, flagsFrom, shipmentsIn, bookIn}
@@ -25,9 +25,9 @@ use Rattle.acts.proofs.RowsInTurn.{one-more-stored}
 use Rattle.book.proofs.Appending.{appended, shipments-alike}
 use Rattle.write.specs.Written.{putAt}
 use Rattle.store.specs.Inner.Walk.{headFrom, countFrom, bodyFrom, rowsFromBytes, bookFrom, isEntry, wholeFrom, flagsFromBytes}
-use Rattle.store.specs.Inner.Unpack.{isBody, givenRow, BodyUnpacked, BodiesUnpacked}
+use Rattle.store.specs.Inner.Unpack.{isBody, givenRow, OrderStored, BodyUnpacked, BodiesUnpacked}
 use Rattle.store.proofs.Walks.{rows-many}
-use Rattle.store.proofs.Placing.{head-put, row-put, row-put-only}
+use Rattle.store.proofs.Placing.{head-put}
 use Rattle.store.proofs.SoundMemory.{flags-same}
 
 -- a body, as code asks for it, by what is left behind its place
@@ -38,14 +38,14 @@ module _ (bytes : List ℕ) (i k at : ℕ) (there : at ≤ length bytes) where
       (λ yes. let fits = leb-true long (length bytes - at) yes in le-leb (at + long) (length bytes) (omega arith))
       (λ yes. let fits = leb-true (at + long) (length bytes) yes in le-leb long (length bytes - at) (omega arith))
 
-  pub no-head : length bytes - at < 64 → false ≡ isBody bytes i k at
-  no-head short = sym (first-no (leb (at + 64) (length bytes)) _ (lt-leb (at + 64) (length bytes) (omega arith)))
+  pub no-head : length bytes - at < headSize → false ≡ isBody bytes i k at
+  no-head short = sym (first-no (leb (at + headSize) (length bytes)) _ (lt-leb (at + headSize) (length bytes) (omega arith)))
 
-  pub body-told : {n : ℕ} {told : Bool} → 64 ≤ length bytes - at → n ≡ countFrom bytes at
-      → told ≡ (leb (k + n) mostRows && (leb (64 + 5 * n) (length bytes - at) && isEntry bytes i at (64 + 5 * n))) → told ≡ isBody bytes i k at
+  pub body-told : {n : ℕ} {told : Bool} → headSize ≤ length bytes - at → n ≡ countFrom bytes at
+      → told ≡ (leb (k + n) mostRows && (leb (headSize + rowSize * n) (length bytes - at) && isEntry bytes i at (headSize + rowSize * n))) → told ≡ isBody bytes i k at
   body-told {n} room is-count told =
-      and-true (leb (at + 64) (length bytes)) _ _ (le-leb (at + 64) (length bytes) (omega arith))
-      (rw (← is-count) (told ∙ ap (λ (t : Bool). leb (k + n) mostRows && (t && isEntry bytes i at (64 + 5 * n))) (room-left (64 + 5 * n))))
+      and-true (leb (at + headSize) (length bytes)) _ _ (le-leb (at + headSize) (length bytes) (omega arith))
+      (rw (← is-count) (told ∙ ap (λ (t : Bool). leb (k + n) mostRows && (t && isEntry bytes i at (headSize + rowSize * n))) (room-left (headSize + rowSize * n))))
 
 -- rows of a book with a shipment more
 rows-behind : (book : Book) (s : Shipment) → rowsIn (book ++ (s ∷ [])) ≡ rowsIn book + length (s .rows)
@@ -53,14 +53,14 @@ rows-behind [] s = omega arith
 rows-behind (t ∷ book) s = let rest = rows-behind book s in omega arith
 
 -- the rows that were copied, as a list
-listed : (m bytes : List ℕ) (at k j n : ℕ) → ((i : ℕ) → i < n → rowOf (rowBytes m (k + i)) ≡ rowOf (take 5 (drop (at + 5 * (j + i)) bytes)))
-    → rowsFrom m k n ≡ rowsFromBytes bytes (at + 5 * j) n
+listed : (m bytes : List ℕ) (at k j n : ℕ) → ((i : ℕ) → i < n → rowOf (rowBytes m (k + i)) ≡ rowOf (take rowSize (drop (at + rowSize * (j + i)) bytes)))
+    → rowsFrom m k n ≡ rowsFromBytes bytes (at + rowSize * j) n
 unfolding rowsFrom rowsFromBytes
 listed m bytes at k j zero each = refl
 listed m bytes at k j (suc n) each =
     let row : k + 0 ≡ k = omega arith in
-    let entry : at + 5 * (j + 0) ≡ at + 5 * j = omega arith in
-    let next : at + 5 * j + 5 ≡ at + 5 * (j + 1) = omega arith in
+    let entry : at + rowSize * (j + 0) ≡ at + rowSize * j = omega arith in
+    let next : at + rowSize * j + rowSize ≡ at + rowSize * (j + 1) = omega arith in
     let first = rw (row, entry) at (each 0 (omega arith)) in
     let rest = listed m bytes at (suc k) (j + 1) n (λ i within.
     let next-row : suc k + i ≡ k + suc i = omega arith in
@@ -69,24 +69,21 @@ listed m bytes at k j (suc n) each =
     rw next (λ t. first t ∷ rest t)
 
 -- order after order
-pub one-more-unpacked : (bytes : List ℕ) (at : ℕ) {l m m′ row : List ℕ} {k n : ℕ} → RowsStored (givenRow bytes at k) k n l m → row ≡ take 5 (drop (at + 5 * n) bytes)
-    → length row ≡ 5 → k + n < mostRows → size ≤ length m → m′ ≡ putAt (rowAt (k + n)) (take 5 row) m → RowsStored (givenRow bytes at k) k (n + 1) l m′
-one-more-unpacked bytes at {l} {m} {m′} {row} {k} {n} rest is five few enough put =
+pub one-more-unpacked : (bytes : List ℕ) (at : ℕ) {l m m′ order : List ℕ} {k n : ℕ} → k + n < mostRows → RowsStored (givenRow bytes at k) k n l m
+    → order ≡ take rowSize (drop (at + rowSize * n) bytes) → OrderStored order (k + n) m m′ → RowsStored (givenRow bytes at k) k (n + 1) l m′
+one-more-unpacked bytes at {k = k} {n = n} there rest is stored =
     let place : k + n - k ≡ n = omega arith in
-    let row-there = put ∙ ap (λ (r : List ℕ). putAt (rowAt (k + n)) r m) (take-all 5 row (omega arith)) in
-    rw row-there
-    (one-more-stored rest (row-put row (k + n) m five few enough ∙ ap rowOf is ∙ ap (λ (j : ℕ). rowOf (take 5 (drop (at + 5 * j) bytes))) (sym place))
-    (row-put-only row (k + n) m five few enough))
+    one-more-stored there rest (stored .row ∙ ap rowOf is ∙ ap (λ (j : ℕ). rowOf (take rowSize (drop (at + rowSize * j) bytes))) (sym place)) (stored .only)
 
 -- a body: its head, and then its rows
 pub body-unpacked : (bytes : List ℕ) (i k at n : ℕ) {l m m′ head : List ℕ} → head ≡ headFrom bytes at → IsHead head → n ≡ countFrom bytes at → i < mostShipments
-    → size ≤ length l → m ≡ putAt (headAt i) head l → RowsStored (givenRow bytes (at + 64) k) k n m m′ → BodyUnpacked bytes i k at l m′
+    → size ≤ length l → m ≡ putAt (headAt i) head l → RowsStored (givenRow bytes (at + headSize) k) k n m m′ → BodyUnpacked bytes i k at l m′
 body-unpacked bytes i k at n {l} {m} {m′} {head} is-head whole is-count few enough put rows =
-    let start : at + 64 + 5 * 0 ≡ at + 64 = omega arith in
+    let start : at + headSize + rowSize * 0 ≡ at + headSize = omega arith in
     let stored : HeadStored head i l m = rw put (head-put head i l whole few enough) in
     record {
       head = heads-kept (rows .only) i few ∙ stored .bytes ∙ is-head;
-      rows = rw (← is-count) (rw start at (listed m′ bytes (at + 64) k 0 n (λ j within.
+      rows = rw (← is-count) (rw start at (listed m′ bytes (at + headSize) k 0 n (λ j within.
           let place : k + j - k ≡ 0 + j = omega arith in
           rw place at (rows .rows (k + j) (omega arith) (omega arith)))));
       only = rw (← is-count) (only-again (with-rows (stored .only)) (with-heads (rows .only)));
@@ -147,28 +144,28 @@ module _ {bytes : List ℕ} {n : ℕ} {l m : List ℕ} {i at k : ℕ} (so-far : 
       sym
       (so-far .whole
       ∙ ap (λ (j : ℕ). wholeFrom bytes i k at j) one-left
-      ∙ four-no (leb (at + 64) (length bytes)) (leb (k + countFrom bytes at) mostRows) (leb (at + bodyFrom bytes at) (length bytes)) (isEntry bytes i at (bodyFrom bytes at)) _ none)
+      ∙ four-no (leb (at + headSize) (length bytes)) (leb (k + countFrom bytes at) mostRows) (leb (at + bodyFrom bytes at) (length bytes)) (isEntry bytes i at (bodyFrom bytes at)) _ none)
 
   module _ (is : isBody bytes i k at ≡ true) where
     abbrev c : ℕ
     c = countFrom bytes at
 
-    pub body-room : (at + 64 ≤ length bytes) × (k + c ≤ mostRows) × (at + bodyFrom bytes at ≤ length bytes)
+    pub body-room : (at + headSize ≤ length bytes) × (k + c ≤ mostRows) × (at + bodyFrom bytes at ≤ length bytes)
     body-room =
-        let rest = and-right (leb (at + 64) (length bytes)) _ is in
+        let rest = and-right (leb (at + headSize) (length bytes)) _ is in
         let behind = and-right (leb (k + c) mostRows) _ rest in (
-          leb-true (at + 64) (length bytes) (and-left (leb (at + 64) (length bytes)) _ is),
+          leb-true (at + headSize) (length bytes) (and-left (leb (at + headSize) (length bytes)) _ is),
           leb-true (k + c) mostRows (and-left (leb (k + c) mostRows) _ rest),
           leb-true (at + bodyFrom bytes at) (length bytes) (and-left (leb (at + bodyFrom bytes at) (length bytes)) _ behind),
         )
 
     abbrev s : Shipment
-    s = shipmentIn (headFrom bytes at) (rowsFromBytes bytes (at + 64) c)
+    s = shipmentIn (headFrom bytes at) (rowsFromBytes bytes (at + headSize) c)
 
     whole-on : wholeFrom bytes i k at (suc (n - suc i)) ≡ wholeFrom bytes (suc i) (k + c) (at + bodyFrom bytes at) (n - suc i)
     unfolding wholeFrom
     whole-on =
-        four-yes (leb (at + 64) (length bytes)) (leb (k + c) mostRows) (leb (at + bodyFrom bytes at) (length bytes)) (isEntry bytes i at (bodyFrom bytes at)) _ is
+        four-yes (leb (at + headSize) (length bytes)) (leb (k + c) mostRows) (leb (at + bodyFrom bytes at) (length bytes)) (isEntry bytes i at (bodyFrom bytes at)) _ is
 
     book-on : shipmentsFrom m 0 0 i ++ (s ∷ bookFrom bytes (at + bodyFrom bytes at) (n - suc i)) ≡ shipmentsFrom m 0 0 i ++ bookFrom bytes at (n - i)
     unfolding bookFrom
@@ -184,7 +181,7 @@ module _ {bytes : List ℕ} {n : ℕ} {l m : List ℕ} {i at k : ℕ} (so-far : 
 
       shipment-more : shipmentsFrom m′ 0 0 (suc i) ≡ shipmentsFrom m 0 0 i ++ (s ∷ [])
       shipment-more =
-          appended m m′ i s heads-before (λ r before. let from = so-far .from in body .only .other-rows r (λ among. omega (arith, among .0)))
+          appended m m′ i s heads-before (λ r before. let from = so-far .from in let few = so-far .few in body .only .other-rows r (omega arith) (λ among. omega (arith, among .0)))
           (rw (so-far .from) at shipment-new)
 
       flags-on : (flagsFrom m′ 0 (suc i) && flagsFromBytes bytes (at + bodyFrom bytes at) (n - suc i)) ≡ (flagsFrom m 0 i && flagsFromBytes bytes at (n - i))
@@ -202,7 +199,7 @@ module _ {bytes : List ℕ} {n : ℕ} {l m : List ℕ} {i at k : ℕ} (so-far : 
     unfolding shipmentIn
     rows-on =
         rows-behind (shipmentsFrom m 0 0 i) s
-        ∙ (λ t. sym (so-far .from) t + rows-many bytes (at + 64) c t)
+        ∙ (λ t. sym (so-far .from) t + rows-many bytes (at + headSize) c t)
 
     pub unpacking-on : {m′ : List ℕ} {at′ k′ : ℕ} → n ≤ mostShipments → BodyUnpacked bytes i k at m m′ → at′ ≡ at + bodyFrom bytes at → k′ ≡ k + c
         → Unpacking bytes n l m′ (i + 1) at′ k′

@@ -13,6 +13,7 @@ use Rattle.model.specs.Shipment.{Shipment, mostShipments, mostRows, accepted, r
 use Rattle.model.specs.Book.{Book}
 use Rattle.model.specs.Sound.{sound}
 use Rattle.model.specs.declared.Row.{Row}
+use Rattle.memory.specs.Layout.{headSize, rowSize}
 use Rattle.memory.specs.Inner.Enter.{bytesOf}
 use Rattle.memory.specs.Inner.Stored.{stageByte, codeOf}
 use Rattle.write.specs.Written.{Wrote, leaving, writtenAfter}
@@ -22,8 +23,8 @@ abbrev pub flagByte : Bool → ℕ
 flagByte true = 1
 flagByte false = 0
 
--- A shipment's head, 64 bytes: identifier and its length, date, A or B, kind, F, stage, go-ahead, number of orders, transfers accepted of K and O, surplus
--- returned of K and O.
+-- A shipment's head, 66 bytes: identifier and its length, date, A or B, kind, flat part, stage, go-ahead, number of orders, transfers accepted of K and O,
+-- surplus returned of K and O, rate.
 unfoldable pub headOf : Shipment → List ℕ
 headOf s =
     s .agreed .name .ident .bytes
@@ -31,15 +32,17 @@ headOf s =
     ∷ (bytesOf 4 (s .agreed .name .date .0)
     ++ (s .agreed .name .payment
     ∷ s .agreed .name .kind
-    ∷ (bytesOf 4 (s .agreed .fee)
+    ∷ (bytesOf 4 (s .agreed .terms .flat .0)
     ++ (stageByte (s .stage)
     ∷ flagByte (s .goAhead)
     ∷ (bytesOf 2 (length (s .rows))
-    ++ (bytesOf 8 (accepted K s) ++ (bytesOf 8 (accepted O s) ++ (bytesOf 8 (returned K s) ++ bytesOf 8 (returned O s))))))))))
+    ++ (bytesOf 8 (accepted K s)
+    ++ (bytesOf 8 (accepted O s)
+    ++ (bytesOf 8 (returned K s) ++ (bytesOf 8 (returned O s) ++ bytesOf 2 (s .agreed .terms .rate .0)))))))))))
 
--- An order, 5 bytes: its amount, and the byte of its state.
+-- An order, 11 bytes: its amount, the byte of its state, its fee and its remainder.
 unfoldable pub orderOf : Row → List ℕ
-orderOf row = bytesOf 4 (row .amount .0) ++ (codeOf (row .state) ∷ [])
+orderOf row = bytesOf 4 (row .amount .0) ++ (codeOf (row .state) ∷ (bytesOf 4 (row .fee .0) ++ bytesOf 2 (row .remainder)))
 
 unfoldable pub ordersOf : List Row → List ℕ
 ordersOf [] = []
@@ -58,9 +61,10 @@ unfoldable pub bodiesOf : Book → List ℕ
 bodiesOf [] = []
 bodiesOf (s ∷ book) = bodyOf s ++ bodiesOf book
 
--- The form byte, the number of shipments, the contents table, the bodies.
+-- The form byte, the number of shipments, the contents table, the bodies. "Shipments keep flat part and rate and rows their fee and remainder, so the book's
+-- record .. change ..": the first later change (document 02, A5).
 abbrev pub form : ℕ
-form = 1
+form = 2
 
 unfoldable pub stored : Book → List ℕ
 stored book = form ∷ length book ∷ (contentsFrom (2 + 8 * length book) book ++ bodiesOf book)
@@ -82,7 +86,7 @@ pub record Storable (book : Book) : Type 0 where
 
 -- The most bytes that a stored book takes, of "up to 32 shipments" and "2,048 rows" (document 01).
 abbrev pub mostStored : ℕ
-mostStored = 2 + (8 + 64) * mostShipments + 5 * mostRows
+mostStored = 2 + (8 + headSize) * mostShipments + rowSize * mostRows
 
 abbrev pub StoredFits : Type 0
 StoredFits = (book : Book) → Storable book → length (stored book) ≤ mostStored

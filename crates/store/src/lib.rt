@@ -8,18 +8,21 @@ ghost use Prim.Native.Nat.{_+_, _*_, _≤_, _<_};
 ghost use lib.ListN.{length, take, drop};
 ghost use Rattle.model.specs.Shipment.{mostShipments, mostRows};
 ghost use Rattle.model.specs.Book.{rowsIn};
-ghost use Rattle.memory.specs.Layout.{size, headBytes, IsHead};
+ghost use Rattle.memory.specs.Layout.{headSize, rowSize, size, headBytes, rowBytes, IsHead};
 ghost use Rattle.memory.specs.Read.{ordersAt, shipmentsFrom, shipmentsIn, soundIn, readBook};
 ghost use Rattle.memory.specs.Inner.Enter.{bytesOf};
 ghost use Rattle.write.specs.Written.{putAt, written};
 ghost use Rattle.store.specs.Stored.{storedInto};
 ghost use Rattle.store.specs.Inner.Raw.{rawOrders, rawBodies, rawContents, rawStored};
+use memory::AMOUNTS;
+use memory::FEES;
 use memory::HEAD_SIZE;
 use memory::MOST_ROWS;
 use memory::MOST_SHIPMENTS;
+use memory::REMAINDERS;
+use memory::STATES;
 use memory::head::head_bytes;
 use memory::head::orders;
-use memory::row::row_bytes;
 use memory::shipments;
 use sound::is_sound;
 use write::OUTPUT_TOO_SHORT;
@@ -30,12 +33,12 @@ use write::put_text;
 const UNSOUND: u64 = 10;
 
 // The form that is stored, and the only one that is loaded.
-const FORM: u8 = 1;
+const FORM: u8 = 2;
 
 // The bytes of an entry of the contents table, and of an order. A head takes as many as in memory.
 const ENTRY: usize = 8;
 
-const ORDER: usize = 5;
+const ORDER: usize = 11;
 
 // The most bytes that a stored book takes.
 pub const MOST_STORED: usize = 2 + (ENTRY + HEAD_SIZE) * MOST_SHIPMENTS + ORDER * MOST_ROWS;
@@ -59,7 +62,7 @@ pub fn store(book: &[u8], output: &mut [u8]) -> Writing
 // How many bytes n shipments take when they are stored.
 fn stored_length(memory: &[u8], n: usize) -> usize
     requires { ⌜ (n ≤ mostShipments) × (size ≤ length (now memory)) ⌝ }
-    ensures { λ r. ⌜ r ≡ 2 + 72 * n + 5 * rowsIn (shipmentsFrom (now (memory .entry)) 0 0 n) ⌝ }
+    ensures { λ r. ⌜ r ≡ 2 + (8 + headSize) * n + rowSize * rowsIn (shipmentsFrom (now (memory .entry)) 0 0 n) ⌝ }
 {
     let mut rows = 0;
     for i in 0..n {
@@ -98,7 +101,7 @@ fn put_contents(output: &mut [u8], at: usize, memory: &[u8], n: usize) -> usize
 // How long the body of a shipment of n orders is.
 fn body_length(n: u64) -> u64
     requires { ⌜ n < 65_536 ⌝ }
-    ensures { λ r. ⌜ (r ≡ 64 + 5 * n) × (r < 400_000) ⌝ }
+    ensures { λ r. ⌜ (r ≡ headSize + rowSize * n) × (r < 800_000) ⌝ }
 {
     HEAD_SIZE as u64 + ORDER as u64 * n
 }
@@ -158,17 +161,17 @@ fn put_head(output: &mut [u8], at: usize, head: &[u8]) -> usize
     ensures { λ r. ⌜ r ≡ at + length (now (head .entry)) ⌝ }
     ensures { λ r. ⌜ now (output .exit) ≡ putAt at (now (head .entry)) (now (output .entry)) ⌝ }
 {
-    for i in 0..8 {
-        let from = 8 * i;
-        put_eight(output, at + from, head, from);
+    for i in 0..6 {
+        let from = 11 * i;
+        put_eleven(output, at + from, head, from);
     }
     at + HEAD_SIZE
 }
 
-// Puts eight bytes of a text at a place. All of them are read before one is put, so that they are moved at once.
-fn put_eight(output: &mut [u8], at: usize, text: &[u8], from: usize)
-    requires { ⌜ (at + 8 ≤ length (now output)) × (from + 8 ≤ length (now text)) ⌝ }
-    ensures { λ _. ⌜ now (output .exit) ≡ putAt at (take 8 (drop from (now (text .entry)))) (now (output .entry)) ⌝ }
+// Puts eleven bytes of a text at a place. All of them are read before one is put, so that they are moved at once.
+fn put_eleven(output: &mut [u8], at: usize, text: &[u8], from: usize)
+    requires { ⌜ (at + 11 ≤ length (now output)) × (from + 11 ≤ length (now text)) ⌝ }
+    ensures { λ _. ⌜ now (output .exit) ≡ putAt at (take 11 (drop from (now (text .entry)))) (now (output .entry)) ⌝ }
 {
     let a = text[from];
     let b = text[from + 1];
@@ -178,6 +181,9 @@ fn put_eight(output: &mut [u8], at: usize, text: &[u8], from: usize)
     let f = text[from + 5];
     let g = text[from + 6];
     let h = text[from + 7];
+    let i = text[from + 8];
+    let j = text[from + 9];
+    let k = text[from + 10];
     output[at] = a;
     output[at + 1] = b;
     output[at + 2] = c;
@@ -186,43 +192,54 @@ fn put_eight(output: &mut [u8], at: usize, text: &[u8], from: usize)
     output[at + 5] = f;
     output[at + 6] = g;
     output[at + 7] = h;
+    output[at + 8] = i;
+    output[at + 9] = j;
+    output[at + 10] = k;
 }
 
-// Puts n orders from row k on at a place, and answers the place behind them. Each but the last is put with the free bytes of its
-// row, and the next order's bytes are put over them.
+// Puts n orders from row k on at a place, and answers the place behind them.
 fn put_orders(output: &mut [u8], at: usize, memory: &[u8], k: usize, n: usize) -> usize
     requires { ⌜ (k + n ≤ mostRows) × (size ≤ length (now memory)) × (at + length (rawOrders (now memory) k n) ≤ length (now output)) ⌝ }
     ensures { λ r. ⌜ r ≡ at + length (rawOrders (now (memory .entry)) k n) ⌝ }
     ensures { λ r. ⌜ now (output .exit) ≡ putAt at (rawOrders (now (memory .entry)) k n) (now (output .entry)) ⌝ }
 {
-    if n == 0 {
-        return at;
-    }
-    let last = n - 1;
     let mut place = at;
-    for done in 0..last {
-        put_eight(output, place, row_bytes(memory, k + done), 0);
-        place += ORDER;
+    for done in 0..n {
+        place = put_order(output, place, memory, k + done);
     }
-    put_order(output, place, row_bytes(memory, k + last))
+    place
 }
 
-// Puts an order, the bytes of a row that are not free, at a place, and answers the place behind it. They are read first, as
-// those of a head are.
-fn put_order(output: &mut [u8], at: usize, row: &[u8]) -> usize
-    requires { ⌜ (at + 5 ≤ length (now output)) × (5 ≤ length (now row)) ⌝ }
-    ensures { λ r. ⌜ r ≡ at + 5 ⌝ }
-    ensures { λ r. ⌜ now (output .exit) ≡ putAt at (take 5 (now (row .entry))) (now (output .entry)) ⌝ }
+// Puts the order of row k at a place, and answers the place behind it.
+fn put_order(output: &mut [u8], at: usize, memory: &[u8], k: usize) -> usize
+    requires { ⌜ (k < mostRows) × (size ≤ length (now memory)) × (at + rowSize ≤ length (now output)) ⌝ }
+    ensures { λ r. ⌜ r ≡ at + rowSize ⌝ }
+    ensures { λ r. ⌜ now (output .exit) ≡ putAt at (rowBytes (now (memory .entry)) k) (now (output .entry)) ⌝ }
 {
-    let a = row[0];
-    let b = row[1];
-    let c = row[2];
-    let d = row[3];
-    let state = row[4];
-    output[at] = a;
-    output[at + 1] = b;
-    output[at + 2] = c;
-    output[at + 3] = d;
-    output[at + 4] = state;
+    let order = order_bytes(memory, k);
+    put_eleven(output, at, &order, 0);
     at + ORDER
+}
+
+// The bytes of row k, gathered from the columns: its amount, its state, its fee and its remainder.
+fn order_bytes(memory: &[u8], k: usize) -> [u8; ORDER]
+    requires { ⌜ (k < mostRows) × (size ≤ length (now memory)) ⌝ }
+    ensures { λ r. ⌜ r ≡ rowBytes (now (memory .entry)) k ⌝ }
+{
+    let amount = AMOUNTS + 4 * k;
+    let fee = FEES + 4 * k;
+    let remainder = REMAINDERS + 2 * k;
+    [
+        memory[amount],
+        memory[amount + 1],
+        memory[amount + 2],
+        memory[amount + 3],
+        memory[STATES + k],
+        memory[fee],
+        memory[fee + 1],
+        memory[fee + 2],
+        memory[fee + 3],
+        memory[remainder],
+        memory[remainder + 1],
+    ]
 }

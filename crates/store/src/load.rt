@@ -4,24 +4,28 @@ ghost use mathlib.Core.Bool.{_&&_};
 ghost use Prim.Native.Nat.{_+_, _*_, _≤_, _<_};
 ghost use lib.ListN.{length};
 ghost use Rattle.model.specs.Shipment.{mostShipments, mostRows};
-ghost use Rattle.memory.specs.Layout.{size};
+ghost use Rattle.memory.specs.Layout.{headSize, rowSize, size, IsRow};
 ghost use Rattle.acts.specs.Inner.Place.{RowsStored};
 ghost use Rattle.store.specs.Unstored.{Loads};
 ghost use Rattle.store.specs.Inner.Walk.{countFrom, bodyFrom, isEntry};
-ghost use Rattle.store.specs.Inner.Unpack.{isBody, hasContents, givenRow, BodyUnpacked, BodiesUnpacked, Unpacked};
+ghost use Rattle.store.specs.Inner.Unpack.{isBody, hasContents, givenRow, OrderStored, BodyUnpacked, BodiesUnpacked, Unpacked};
 use crate::ENTRY;
 use crate::FORM;
 use crate::ORDER;
 use crate::put_head;
-use crate::put_order;
+use memory::AMOUNTS;
+use memory::FEES;
 use memory::HEAD_SIZE;
 use memory::HEADS;
 use memory::MOST_ROWS;
-use memory::ROW_SIZE;
-use memory::ROWS;
+use memory::REMAINDERS;
 use memory::SIZE;
 use memory::head::orders;
 use memory::number::read_four;
+use memory::number::read_two;
+use memory::number::store_four;
+use memory::number::store_two;
+use memory::row::store_code;
 use memory::store_shipments;
 use sound::is_sound;
 use text::bytes::byte_at;
@@ -98,7 +102,7 @@ fn unpack_bodies(memory: &mut [u8], stored: &[u8], n: usize) -> bool
 
 // How many orders the head of a body at a place says.
 fn count_at(stored: &[u8], at: usize) -> usize
-    requires { ⌜ at + 64 ≤ length (now stored) ⌝ }
+    requires { ⌜ at + headSize ≤ length (now stored) ⌝ }
     ensures { λ r. ⌜ (r ≡ countFrom (now (stored .entry)) at) × (r < 65_536) ⌝ }
 {
     let end = at + HEAD_SIZE;
@@ -142,12 +146,23 @@ fn unpack_body(memory: &mut [u8], stored: &[u8], i: usize, at: usize, k: usize)
 
 // Unpacks n orders from a place on as the rows from the k-th on.
 fn unpack_orders(memory: &mut [u8], k: usize, n: usize, stored: &[u8], at: usize)
-    requires { ⌜ (k + n ≤ mostRows) × (size ≤ length (now memory)) × (at + 5 * n ≤ length (now stored)) ⌝ }
+    requires { ⌜ (k + n ≤ mostRows) × (size ≤ length (now memory)) × (at + rowSize * n ≤ length (now stored)) ⌝ }
     ensures { λ _. ⌜ RowsStored (givenRow (now (stored .entry)) at k) k n (now (memory .entry)) (now (memory .exit)) ⌝ }
 {
     for done in 0..n {
         let from = at + ORDER * done;
         let end = from + ORDER;
-        put_order(memory, ROWS + ROW_SIZE * (k + done), &stored[from..end]);
+        store_order(memory, k + done, &stored[from..end]);
     }
+}
+
+// Stores the bytes of an order in the columns of row k.
+fn store_order(memory: &mut [u8], k: usize, order: &[u8])
+    requires { ⌜ (k < mostRows) × (size ≤ length (now memory)) × IsRow (now order) ⌝ }
+    ensures { λ _. ⌜ OrderStored (now (order .entry)) k (now (memory .entry)) (now (memory .exit)) ⌝ }
+{
+    store_four(memory, AMOUNTS + 4 * k, read_four(order, 0));
+    store_four(memory, FEES + 4 * k, read_four(order, 5));
+    store_two(memory, REMAINDERS + 2 * k, read_two(order, 9));
+    store_code(memory, k, order[4]);
 }

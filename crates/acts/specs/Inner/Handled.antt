@@ -1,4 +1,4 @@
--- What is done with an order, before the deed's own answer is made of it: the fee of its shipment and its amount.
+-- What is done with an order, before the deed's own answer is made of it: its fee and its amount.
 use Rattle.model.specs.Calls.{Answer, Refused, Done, FeeEarned, AmountPaid}
 use Rattle.model.specs.declared.Deed.{Deed}
 use Rattle.model.specs.declared.Deed.the-variants.{Post, Pay, MarkUndelivered, Withdraw}

@@ -1,13 +1,16 @@
 -- What waits in a shipment, as code adds it up; and rows as a return leaves them.
 use mathlib.Core.Path.{_≡_}
+use mathlib.Core.Bool.{Bool, false, _&&_}
 use mathlib.Core.List.{List}
 use Prim.Native.Nat.{ℕ, _+_, _*_}
+use lib.Dec.{eqb}
 use Rattle.money.specs.Money.{sumOf}
-use Rattle.money.specs.declared.Fee.{Fee}
 use Rattle.money.specs.declared.Money.{Money}
-use Rattle.model.specs.Shipment.{Shipment, worth}
-use Rattle.model.specs.Calls.{afterReturn, waiting, waitingOrders}
+use Rattle.money.specs.declared.Money.the-variants.{O}
+use Rattle.model.specs.Shipment.{byMoney, Shipment, onlyIf, sumOver, worth}
+use Rattle.model.specs.Calls.{waitsOn, afterReturn, waiting, waitingOrders}
 use Rattle.model.specs.declared.Route.{Route}
+use Rattle.model.specs.declared.Row.{Row}
 use Rattle.memory.specs.Layout.{rowBytes}
 use Rattle.memory.specs.Rows.{rowOf}
 use Rattle.memory.specs.Read.{ordersAt, shipmentAt}
@@ -16,15 +19,22 @@ use Rattle.acts.specs.declared.route.Taken.{Taken}
 use Rattle.acts.specs.declared.route.Waits.{Waits}
 use Rattle.acts.specs.Inner.Place.{RowsStored}
 
--- A fee is the one that a shipment was agreed on.
-abbrev pub IsFeeOf : Shipment → Fee → Type 0
-IsFeeOf s fee = s .agreed .fee ≡ fee .0
+-- What waits in some rows.
+abbrev pub worthWaiting : Route → Money → List Row → ℕ
+worthWaiting route money rows = sumOver (λ (row : Row). onlyIf (waitsOn route money row) (worth money row)) rows
+
+-- Where the flat part is 0 an order that waits may be worth nothing in O: whether all that wait on a route are.
+abbrev pub feesWaitInVain : Route → Shipment → Bool
+feesWaitInVain route s = eqb (s .agreed .terms .flat .0) 0 && eqb (waiting route O s) 0
+
+abbrev pub waitsInVain : Route → Money → Shipment → Bool
+waitsInVain route money s = byMoney money false (feesWaitInVain route s)
 
 -- Row k is as a return leaves it. What was taken from its byte of state is counted, and as many times the order's worth added up.
-pub record RowCleared (route : Route) (money : Money) (s : Shipment) (k : ℕ) (before : Taken) (m m′ : List ℕ) (after : Taken) : Type 0 where
+pub record RowCleared (route : Route) (money : Money) (k : ℕ) (before : Taken) (m m′ : List ℕ) (after : Taken) : Type 0 where
   pub taken : ℕ
   pub row : RowReturned route money k m m′ taken
-  pub added : after .worth ≡ before .worth + worth money s (rowOf (rowBytes m k)) * taken
+  pub added : after .worth ≡ before .worth + worth money (rowOf (rowBytes m k)) * taken
   pub counted : after .count ≡ before .count + taken
 
 -- Each of n rows from the k-th on is as a return leaves it, and nothing else moves.

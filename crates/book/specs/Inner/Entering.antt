@@ -2,11 +2,13 @@
 use mathlib.Core.Path.{_≡_}
 use mathlib.Core.Bool.{true}
 use mathlib.Core.List.{List, [], _∷_, _++_}
-use Prim.Native.Nat.{ℕ, _+_, _-_, _≤_, _<_, _^_}
+use Prim.Native.Nat.{ℕ, _+_, _-_, _≤_, _<_}
 use lib.ListN.{length, getD}
+use Rattle.fee.specs.Fee.{TermsFit}
+use Rattle.fee.specs.declared.Terms.{Terms}
 use Rattle.epe.specs.Questions.{Question, asked}
 use Rattle.epe.specs.Name.{nameInForm}
-use Rattle.contents.specs.Accepted.{EachInRange}
+use Rattle.contents.specs.Accepted.{EachInRange, EachCharged}
 use Rattle.contents.specs.Kept.{orderIn, ordersIn}
 use Rattle.epe.specs.declared.name.Name.{Name}
 use Rattle.model.specs.Shipment.{mostShipments, mostRows, Shipment}
@@ -18,19 +20,20 @@ use Rattle.memory.specs.Read.{flagsFrom, shipmentsIn, bookIn, soundIn}
 use Rattle.book.specs.Does.{Does}
 
 -- The row of the order that a table keeps for it, where the first is row k.
-abbrev pub keptRow : ℕ → List ℕ → ℕ → Row
-keptRow k kept r = enteredRow (orderIn kept (r - k))
+abbrev pub keptRow : Terms → ℕ → List ℕ → ℕ → Row
+keptRow terms k kept r = enteredRow terms (orderIn kept (r - k))
 
 -- There is room for a shipment as the i-th, its rows from the k-th on, and all that is to be entered is in its form.
-pub record Fits (m : List ℕ) (i k : ℕ) (name : Name) (fee n : ℕ) (kept : List ℕ) : Type 0 where
+pub record Fits (m : List ℕ) (i k : ℕ) (name : Name) (terms : Terms) (n : ℕ) (kept : List ℕ) : Type 0 where
   pub enough : size ≤ length m
   pub last : i ≡ shipmentsIn m
   pub few : i < mostShipments
   pub from : k ≡ rowsIn (bookIn m)
   pub room : k + n ≤ mostRows
   pub in-range : EachInRange (ordersIn kept 0 n)
+  pub charged : EachCharged terms (ordersIn kept 0 n)
   pub in-form : nameInForm name ≡ true
-  pub fee-fits : fee < 2 ^ 32
+  pub terms-fit : TermsFit terms
 
 -- The book then has it behind the last, and the memory behind the book is as it was.
 pub record ShipmentEntered (s : Shipment) (m m′ : List ℕ) : Type 0 where
@@ -43,16 +46,17 @@ pub record ShipmentEntered (s : Shipment) (m m′ : List ℕ) : Type 0 where
 abbrev pub enteredIn : List Question → Shipment → ℕ → ℕ → Book → Step
 enteredIn left s n faulty book = asked (left ++ roomQuestions n book) (refusingIn book) (stay (Accepted n faulty) (book ++ (s ∷ [])))
 
--- A file for a book of i shipments: the book is sound, and the name and the fee are in form.
-pub record Opened (m : List ℕ) (i : ℕ) (name : Name) (fee : ℕ) : Type 0 where
+-- A file for a book of i shipments: the book is sound, and the name and the terms are in form.
+pub record Opened (m : List ℕ) (i : ℕ) (name : Name) (terms : Terms) : Type 0 where
   pub sound : soundIn m ≡ true
   pub last : i ≡ shipmentsIn m
   pub in-form : nameInForm name ≡ true
-  pub fee-fits : fee < 2 ^ 32
+  pub terms-fit : TermsFit terms
 
--- Its contents passed: a table keeps its n orders, each in range, unless they are more than a book has rows.
-pub record Counted (n : ℕ) (kept : List ℕ) : Type 0 where
+-- Its contents passed: a table keeps its n orders, each in range and with a fee, unless they are more than a book has rows.
+pub record Counted (terms : Terms) (n : ℕ) (kept : List ℕ) : Type 0 where
   pub in-range : n ≤ mostRows → EachInRange (ordersIn kept 0 n)
+  pub charged : n ≤ mostRows → EachCharged terms (ordersIn kept 0 n)
 
 -- What an intake promises of which only these questions and the room are left.
 pub record DoesEnter (left : List Question) (s : Shipment) (n faulty : ℕ) (before : List ℕ) (answer : Answer) (after : List ℕ) : Type 0 where

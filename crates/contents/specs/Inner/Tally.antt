@@ -5,9 +5,11 @@ use mathlib.Core.List.{List, [], _∷_, map}
 use Prim.Native.Nat.{ℕ, _+_, _*_, _^_, _≤_}
 use lib.Dec.{eqb, leb, ltb}
 use lib.ListN.{length}
-use Rattle.money.specs.Money.{WithinOrder}
+use Rattle.money.specs.Money.{isOrderFee, WithinOrder}
+use Rattle.fee.specs.Fee.{feeOf}
+use Rattle.fee.specs.declared.Terms.{Terms}
 use Rattle.epe.specs.Questions.{Question, _elseNo_, asked}
-use Rattle.contents.specs.Contents.{shaped, allShaped, allPriced, total, orderOf, faultyCount, linesRead}
+use Rattle.contents.specs.Contents.{shaped, allShaped, allPriced, allCharged, total, orderOf, faultyCount, linesRead}
 use Rattle.contents.specs.Kept.{keptFrom}
 use Rattle.contents.specs.declared.judge.Judged.{Judged}
 use Rattle.contents.specs.declared.judge.Judged.the-variants.{Accepted, Refused as NotAccepted}
@@ -22,20 +24,22 @@ pub record RecordOf (r n : ℕ) (line : List ℕ) (read : RecordRead) : Type 0 w
   pub its-order : read .order ≡ orderOf line
   pub within-cap : WithinOrder (read .order .amount .0)
 
--- One order more.
-unfoldable pub added : Tally → Order → Tally
-added tally order = record {
+-- One order more, on the terms of its fee.
+unfoldable pub added : Terms → Tally → Order → Tally
+added terms tally order = record {
   shaped = tally .shaped;
   priced = tally .priced && ltb 0 (order .amount .0);
+  charged = tally .charged && isOrderFee (feeOf terms (order .amount .0));
   count = tally .count + 1;
   sum = tally .sum + order .amount .0;
   faulty = tally .faulty + cond (eqb (order .fault) 0) 0 1;
 }
 
 -- The tally of some record lines: whether all are shaped and, where they are, what they come to; and that a table keeps the orders of those read.
-pub record Tallied (fields : ℕ) (lines : List (List ℕ)) (tally : Tally) (before after : List ℕ) : Type 0 where
+pub record Tallied (fields : ℕ) (terms : Terms) (lines : List (List ℕ)) (tally : Tally) (before after : List ℕ) : Type 0 where
   pub shape : tally .shaped ≡ allShaped fields 1 lines
   pub prices : tally .shaped ≡ true → tally .priced ≡ allPriced lines
+  pub charges : tally .shaped ≡ true → tally .charged ≡ allCharged terms lines
   pub counted : tally .shaped ≡ true → tally .count ≡ length lines
   pub summed : tally .shaped ≡ true → tally .sum ≡ total lines
   pub faults : tally .shaped ≡ true → tally .faulty ≡ faultyCount (map orderOf lines)
@@ -48,13 +52,14 @@ pub record SmallTally (tally : Tally) (order : Order) : Type 0 where
   pub fewer : tally .faulty ≤ tally .count
   pub bounded : WithinOrder (order .amount .0)
 
--- What a tally comes to beside what the header states: the questions 901, 902, 129, 132.
+-- What a tally comes to beside what the header states: the questions 901, 902, 129, 132, 906.
 unfoldable pub tallyQuestions : Tally → ℕ → ℕ → List Question
 tallyQuestions tally count sum =
     (tally .shaped elseNo 901)
     ∷ (tally .priced elseNo 902)
     ∷ (eqb (tally .count) count elseNo 129)
     ∷ (eqb (tally .sum) sum elseNo 132)
+    ∷ (tally .charged elseNo 906)
     ∷ []
 
 abbrev pub tallyJudged : Tally → ℕ → ℕ → Judged

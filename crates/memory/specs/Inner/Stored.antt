@@ -14,9 +14,9 @@ use Rattle.model.specs.declared.Stage.the-variants.{Waiting, Paired, Closed}
 use Rattle.model.specs.declared.State.{State}
 use Rattle.model.specs.declared.State.the-variants.{Open, Posted, Paid, Faulty, Undelivered, Withdrawn}
 use Rattle.memory.specs.Number.{withNumber}
-use Rattle.memory.specs.Layout.{headAt, rowAt, size, rowBytes, OnlyRow}
+use Rattle.memory.specs.Layout.{headAt, codeAt, size, rowBytes, OnlyRow}
 use Rattle.memory.specs.States.{stateOf}
-use Rattle.memory.specs.Rows.{stateAt, rowOf}
+use Rattle.memory.specs.Rows.{rowOf}
 use Rattle.memory.specs.Heads.{stageAt, goAheadAt, acceptedAt, returnedAt, shipmentIn}
 
 -- The byte of a stage.
@@ -68,9 +68,9 @@ StateIsReadBack = (state : State) → faultInRange state ≡ true → stateOf (c
 
 -- The memory with another byte of state in row k.
 unfoldable pub withCodeAt : List ℕ → ℕ → ℕ → List ℕ
-withCodeAt m k code = set m (rowAt k + stateAt) code
+withCodeAt m k code = set m (codeAt k) code
 
--- Row k then has the state that the byte says and its amount, and nothing else moves.
+-- Row k then has the state that the byte says, and all else of it; and nothing else moves.
 pub record CodeStored (m : List ℕ) (k code : ℕ) : Type 0 where
   pub row : k < mostRows → size ≤ length m → rowOf (rowBytes (withCodeAt m k code) k) ≡ withState (stateOf code) (rowOf (rowBytes m k))
   pub only : k < mostRows → OnlyRow k m (withCodeAt m k code)

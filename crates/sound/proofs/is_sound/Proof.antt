@@ -10,14 +10,8 @@ returns : tie.Need-returns
 unfolding soundIn
 returns c = search branches depth 12
 
-class-table-requires : tie.Need-class-table-requires
-class-table-requires c κs = search needs
-
 shipments-requires : tie.Need-shipments-requires
 shipments-requires c κs = search needs
-
-slice-aggregate-are-sound : tie.Need-slice-aggregate-are-sound
-slice-aggregate-are-sound c = search needs
 
 are-sound-requires : tie.Need-are-sound-requires
 are-sound-requires c κs = search needs
@@ -26,10 +20,10 @@ are-apart-requires : tie.Need-are-apart-requires
 are-apart-requires c κs = search needs
 
 returns-2 : tie.Need-returns-2
-returns-2 c = as-walked _ _ _ (search needs) (c .before .before .before .before .before .shipments .ensures .0) (search branches depth 12)
+returns-2 c = as-walked _ _ _ (search needs) (c .before .before .before .before .shipments .ensures .0) (search branches depth 12)
 
 returns-3 : tie.Need-returns-3
-returns-3 c = as-walked _ _ _ (search needs) (c .before .before .before .before .shipments .ensures .0) (search branches depth 12)
+returns-3 c = as-walked _ _ _ (search needs) (c .before .before .before .shipments .ensures .0) (search branches depth 12)
 
 returns-4 : tie.Need-returns-4
 returns-4 c = as-walked _ _ _ (search needs) (c .before .shipments .ensures .0) (search branches depth 12)
@@ -39,9 +33,7 @@ is-sound-spec =
     tie.close
     (tie.spec
     returns
-    class-table-requires
     shipments-requires
-    slice-aggregate-are-sound
     are-sound-requires
     are-apart-requires
     returns-2

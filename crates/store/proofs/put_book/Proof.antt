@@ -5,6 +5,7 @@ use Prim.Native.Nat.{_+_, _*_}
 use native.Mathlib.Omega.{arith}
 use borrow.Author.Needs.{needs}
 use Rattle.write.proofs.Putting.{piece-fits, piece-put, last-fits, put-first}
+use Rattle.store.specs.Stored.{form}
 use Rattle.store.specs.Inner.Raw.{rawBodies, rawContents}
 use Rattle.store.proofs.Storing.{whole-of, book-left, book-whole, book-rows, book-lent}
 use Rattle.store.proofs.put_book.Statement.{statement}
@@ -26,7 +27,7 @@ put-text-requires c κs =
     let given = start .args in
     let m = given .memory .now in
     let n = given .n in
-    piece-fits (1 ∷ n ∷ []) (rawContents m 0 (2 + 8 * n) n ++ rawBodies m 0 0 n) (book-left m n (given .output .now) (start .pre .1) (start .pre .2))
+    piece-fits (form ∷ n ∷ []) (rawContents m 0 (2 + 8 * n) n ++ rawBodies m 0 0 n) (book-left m n (given .output .now) (start .pre .1) (start .pre .2))
 
 put-contents-requires : tie.Need-put-contents-requires
 put-contents-requires c κs =
@@ -38,7 +39,7 @@ put-contents-requires c κs =
     let lent = book-lent m (start .pre .0) in
     let few = lent .1 in
     let is = start .pre .1 in
-    let left = piece-put (1 ∷ n ∷ []) (rawContents m 0 (2 + 8 * n) n ++ rawBodies m 0 0 n) (book-left m n (given .output .now) (start .pre .1) (start .pre .2))
+    let left = piece-put (form ∷ n ∷ []) (rawContents m 0 (2 + 8 * n) n ++ rawBodies m 0 0 n) (book-left m n (given .output .now) (start .pre .1) (start .pre .2))
     (text .put-text .ensures .0) (text .put-text .ensures .1) in
     (omega arith, lent .0, piece-fits (rawContents m 0 (2 + 8 * n) n) (rawBodies m 0 0 n) left)
 
@@ -53,7 +54,7 @@ put-bodies-requires c κs =
     let lent = book-lent m (start .pre .0) in
     let few = lent .1 in
     let is = start .pre .1 in
-    let left = piece-put (1 ∷ n ∷ []) (rawContents m 0 (2 + 8 * n) n ++ rawBodies m 0 0 n) (book-left m n (given .output .now) (start .pre .1) (start .pre .2))
+    let left = piece-put (form ∷ n ∷ []) (rawContents m 0 (2 + 8 * n) n ++ rawBodies m 0 0 n) (book-left m n (given .output .now) (start .pre .1) (start .pre .2))
     (text .put-text .ensures .0) (text .put-text .ensures .1) in
     let last = piece-put (rawContents m 0 (2 + 8 * n) n) (rawBodies m 0 0 n) left (contents .put-contents .ensures .0) (contents .put-contents .ensures .1) in
     (omega arith, lent .0, book-rows m n (start .pre .0) (start .pre .1), last-fits (rawBodies m 0 0 n) last)
@@ -70,7 +71,7 @@ returns c =
     let given = start .args in
     let m = given .memory .now in
     let n = given .n in
-    let left = piece-put (1 ∷ n ∷ []) (rawContents m 0 (2 + 8 * n) n ++ rawBodies m 0 0 n) (book-left m n (given .output .now) (start .pre .1) (start .pre .2))
+    let left = piece-put (form ∷ n ∷ []) (rawContents m 0 (2 + 8 * n) n ++ rawBodies m 0 0 n) (book-left m n (given .output .now) (start .pre .1) (start .pre .2))
     (text .put-text .ensures .0) (text .put-text .ensures .1) in
     let last = piece-put (rawContents m 0 (2 + 8 * n) n) (rawBodies m 0 0 n) left (contents .put-contents .ensures .0) (contents .put-contents .ensures .1) in
     bodies .put-bodies .ensures ∙ last .makes ∙ put-first (whole-of m n) (given .output .now) ∙ book-whole m n (given .output .now) (start .pre .1)

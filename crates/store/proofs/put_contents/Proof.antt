@@ -3,6 +3,7 @@ use mathlib.Core.Path.{_∙_, ap}
 use Prim.Native.Nat.{ℕ, _+_, _*_, _-_}
 use native.Mathlib.Omega.{arith}
 use borrow.Author.Needs.{needs}
+use Rattle.memory.specs.Layout.{headSize, rowSize}
 use Rattle.memory.specs.Heads.{orderCountIn}
 use Rattle.store.proofs.Storing.{ContentsPut, contents-begun, entry-fits, contents-on, contents-done}
 use Rattle.store.proofs.put_contents.Statement.{statement}
@@ -57,7 +58,7 @@ loop-again c =
     let head = counted .before in
     let turn = head .before in
     let is-count = counted .orders .ensures .0 ∙ ap orderCountIn (head .head-bytes .ensures .0) in
-    contents-on (turn .before .loop .inv) (turn .loop-test .taken) (long .body-length .ensures .0 ∙ ap (λ (n : ℕ). 64 + 5 * n) is-count) (long .body-length .ensures .1)
+    contents-on (turn .before .loop .inv) (turn .loop-test .taken) (long .body-length .ensures .0 ∙ ap (λ (n : ℕ). headSize + rowSize * n) is-count) (long .body-length .ensures .1)
     (put .put-entry .ensures .0) (put .put-entry .ensures .1)
 
 same-length : tie.Need-same-length Inv-loop μ-loop

@@ -1,4 +1,4 @@
--- `store::put_head`: the first 8 i bytes of the head are there, and everything else is as it was.
+-- `store::put_head`: the first 11 i bytes of the head are there, and everything else is as it was.
 use native.Mathlib.Omega.{arith}
 use mathlib.Core.Path.{_≡_, refl, sym, _∙_, ap}
 use mathlib.Core.List.{List}
@@ -6,17 +6,18 @@ use Prim.Native.Nat.{ℕ, _+_, _*_, _-_, _≤_}
 use borrow.Author.Needs.{needs}
 use lib.ListN.{length, take, drop}
 use lib.Seq.{length-take-le, take-all}
+use Rattle.memory.specs.Layout.{headSize}
 use Rattle.write.specs.Written.{putAt}
 use Rattle.write.proofs.Putting.{put-none, put-length}
-use Rattle.store.proofs.Storing.{eight-more}
+use Rattle.store.proofs.Storing.{eleven-more}
 use Rattle.store.proofs.put_head.Statement.{statement}
 use Rattle.store.proofs.put_head.Tie as tie
 
 abbrev Inv-loop : tie.InvT-loop
-Inv-loop output₀ at head i₀ output i = (i ≤ 8) × (length output ≡ length output₀) × (output ≡ putAt at (take (8 * i) head) output₀)
+Inv-loop output₀ at head i₀ output i = (i ≤ 6) × (length output ≡ length output₀) × (output ≡ putAt at (take (11 * i) head) output₀)
 
 abbrev μ-loop : tie.MeasureT-loop
-μ-loop output₀ at head i₀ output i = 8 - i
+μ-loop output₀ at head i₀ output i = 6 - i
 
 loop-holds : tie.Need-loop-holds Inv-loop μ-loop
 loop-holds c = let start = c .before .before in (omega arith, refl, sym (put-none (start .args .at) (start .args .output .now)))
@@ -24,11 +25,11 @@ loop-holds c = let start = c .before .before in (omega arith, refl, sym (put-non
 mul-from : tie.Need-mul-from Inv-loop μ-loop
 mul-from c = search needs
 
-add-put-eight : tie.Need-add-put-eight Inv-loop μ-loop
-add-put-eight c = search needs
+add-put-eleven : tie.Need-add-put-eleven Inv-loop μ-loop
+add-put-eleven c = search needs
 
-put-eight-requires : tie.Need-put-eight-requires Inv-loop μ-loop
-put-eight-requires c κs =
+put-eleven-requires : tie.Need-put-eleven-requires Inv-loop μ-loop
+put-eleven-requires c κs =
     let turn = c .before in
     let start = turn .before .before .before .before in
     (omega (arith, turn .loop-test .taken, turn .before .loop .inv .1, start .pre .0, start .pre .1), omega (arith, turn .loop-test .taken, start .pre .1))
@@ -48,11 +49,11 @@ loop-again c =
     let given = start .args in
     let i = loop .i in
     let is =
-    put .put-eight .ensures
-    ∙ ap (λ (l : List ℕ). putAt (given .at + 8 * i) (take 8 (drop (8 * i) (given .head .now))) l) (loop .inv .2)
-    ∙ eight-more (given .at) i (given .head .now) (given .output .now) (start .pre .1) (start .pre .0) (turn .loop-test .taken) in
-    let long = length-take-le (8 * (i + 1)) (given .head .now) (omega (arith, start .pre .1, turn .loop-test .taken)) in
-    let fits = put-length (given .at) (take (8 * (i + 1)) (given .head .now)) (given .output .now) (omega (arith, start .pre .0, start .pre .1, turn .loop-test .taken)) in
+    put .put-eleven .ensures
+    ∙ ap (λ (l : List ℕ). putAt (given .at + 11 * i) (take 11 (drop (11 * i) (given .head .now))) l) (loop .inv .2)
+    ∙ eleven-more (given .at) i (given .head .now) (given .output .now) (start .pre .1) (start .pre .0) (turn .loop-test .taken) in
+    let long = length-take-le (11 * (i + 1)) (given .head .now) (omega (arith, start .pre .1, turn .loop-test .taken)) in
+    let fits = put-length (given .at) (take (11 * (i + 1)) (given .head .now)) (given .output .now) (omega (arith, start .pre .0, start .pre .1, turn .loop-test .taken)) in
     (omega (arith, turn .loop-test .taken), ap (λ (l : List ℕ). length l) is ∙ fits, is)
 
 add-result : tie.Need-add-result Inv-loop μ-loop
@@ -66,8 +67,8 @@ returns c =
     let end = c .before .loop in
     let start = c .before .before .before .before in
     let head = start .args .head .now in
-    let all : 8 * end .i ≡ 64 = omega (arith, c .loop-test .left, end .inv .0) in
-    (omega (arith, start .pre .1), end .inv .2 ∙ ap (λ (l : List ℕ). putAt (start .args .at) l (start .args .output .now)) (take-all (8 * end .i) head (omega (arith, start .pre .1))))
+    let all : 11 * end .i ≡ headSize = omega (arith, c .loop-test .left, end .inv .0) in
+    (omega (arith, start .pre .1), end .inv .2 ∙ ap (λ (l : List ℕ). putAt (start .args .at) l (start .args .output .now)) (take-all (11 * end .i) head (omega (arith, start .pre .1))))
 
 pub put-head-spec : {M : Type 1} → statement M
 put-head-spec =
@@ -77,8 +78,8 @@ put-head-spec =
     μ-loop
     loop-holds
     mul-from
-    add-put-eight
-    put-eight-requires
+    add-put-eleven
+    put-eleven-requires
     add-i
     loop-less
     loop-again

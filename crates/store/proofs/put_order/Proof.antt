@@ -1,53 +1,25 @@
--- `store::put_order` puts five bytes, byte after byte.
+-- `store::put_order` puts the bytes of a row.
+use mathlib.Core.Path.{refl, ap, _∙_}
+use mathlib.Core.List.{List}
+use Prim.Native.Nat.{ℕ}
 use native.Mathlib.Omega.{arith}
-use mathlib.Core.Path.{refl}
-use lib.ListN.{length-set}
-use Rattle.store.proofs.Storing.{bytes-put}
+use lib.ListN.{take}
+use lib.Seq.{take-all}
+use Rattle.memory.specs.Layout.{rowSize, rowBytes}
+use Rattle.write.specs.Written.{putAt}
+use Rattle.store.proofs.SoundMemory.{row-size}
 use borrow.Author.Needs.{needs}
 use Rattle.store.proofs.put_order.Statement.{statement}
 use Rattle.store.proofs.put_order.Tie as tie
 
-shared-slice-read-a : tie.Need-shared-slice-read-a
-shared-slice-read-a c = search needs
+order-bytes-requires : tie.Need-order-bytes-requires
+order-bytes-requires c κs = search needs
 
-shared-slice-read-b : tie.Need-shared-slice-read-b
-shared-slice-read-b c = search needs
+slice-aggregate-put-eleven : tie.Need-slice-aggregate-put-eleven
+slice-aggregate-put-eleven c = search needs
 
-shared-slice-read-c : tie.Need-shared-slice-read-c
-shared-slice-read-c c = search needs
-
-shared-slice-read-d : tie.Need-shared-slice-read-d
-shared-slice-read-d c = search needs
-
-shared-slice-read-state : tie.Need-shared-slice-read-state
-shared-slice-read-state c = search needs
-
-slice-write-output : tie.Need-slice-write-output
-slice-write-output c = search needs
-
-add-output : tie.Need-add-output
-add-output c = search needs
-
-slice-write-output-2 : tie.Need-slice-write-output-2
-slice-write-output-2 c = simp length-set (omega arith)
-
-add-output-2 : tie.Need-add-output-2
-add-output-2 c = search needs
-
-slice-write-output-3 : tie.Need-slice-write-output-3
-slice-write-output-3 c = simp length-set (omega arith)
-
-add-output-3 : tie.Need-add-output-3
-add-output-3 c = search needs
-
-slice-write-output-4 : tie.Need-slice-write-output-4
-slice-write-output-4 c = simp length-set (omega arith)
-
-add-output-4 : tie.Need-add-output-4
-add-output-4 c = search needs
-
-slice-write-output-5 : tie.Need-slice-write-output-5
-slice-write-output-5 c = simp length-set (omega arith)
+put-eleven-requires : tie.Need-put-eleven-requires
+put-eleven-requires c κs = search needs
 
 add-result : tie.Need-add-result
 add-result c = search needs
@@ -57,27 +29,25 @@ same-length c = search needs
 
 returns : tie.Need-returns
 returns c =
-    let start = c .before .before .before .before .before in
-    (refl, bytes-put (start .args .at) (start .args .output .now) (start .args .row .now) 0 4 (omega (arith, start .pre .1)) (start .pre .0))
+    let put = c .before .before in
+    let row = put .before .before .before in
+    let start = row .before .before .before in
+    let given = start .args in
+    let bytes = rowBytes (given .memory .now) (given .k) in
+    let whole = take-all rowSize bytes (omega (arith, row-size (given .memory .now) (start .pre .1) (given .k) (start .pre .0))) in (
+      refl,
+      put .put-eleven .ensures
+          ∙ ap (λ (l : List ℕ). putAt (given .at) (take rowSize l) (given .output .now)) (row .order-bytes .ensures)
+          ∙ ap (λ (l : List ℕ). putAt (given .at) l (given .output .now)) whole,
+    )
 
 pub put-order-spec : {M : Type 1} → statement M
 put-order-spec =
     tie.close
     (tie.spec
-    shared-slice-read-a
-    shared-slice-read-b
-    shared-slice-read-c
-    shared-slice-read-d
-    shared-slice-read-state
-    slice-write-output
-    add-output
-    slice-write-output-2
-    add-output-2
-    slice-write-output-3
-    add-output-3
-    slice-write-output-4
-    add-output-4
-    slice-write-output-5
+    order-bytes-requires
+    slice-aggregate-put-eleven
+    put-eleven-requires
     add-result
     same-length
     returns)

@@ -1,22 +1,21 @@
--- Stored bytes as they lie in the memory of a book: heads as they are, and of each row the five bytes that are not free.
+-- Stored bytes as they lie in the memory of a book: heads as they are, and the rows gathered from their columns.
 use mathlib.Core.List.{List, [], _∷_, _++_}
 use Prim.Native.Nat.{ℕ, zero, suc, _+_, _*_}
-use lib.ListN.{take}
-use Rattle.memory.specs.Layout.{headBytes, rowBytes}
+use Rattle.memory.specs.Layout.{headSize, rowSize, headBytes, rowBytes}
 use Rattle.memory.specs.Read.{ordersAt, shipmentsIn}
 use Rattle.memory.specs.Inner.Enter.{bytesOf}
 use Rattle.store.specs.Stored.{form}
 
 unfoldable pub rawOrders : List ℕ → ℕ → ℕ → List ℕ
 rawOrders m k zero = []
-rawOrders m k (suc n) = take 5 (rowBytes m k) ++ rawOrders m (suc k) n
+rawOrders m k (suc n) = rowBytes m k ++ rawOrders m (suc k) n
 
 unfoldable pub rawBodies : List ℕ → ℕ → ℕ → ℕ → List ℕ
 rawBodies m i k zero = []
 rawBodies m i k (suc n) = headBytes m i ++ (rawOrders m k (ordersAt m i) ++ rawBodies m (suc i) (k + ordersAt m i) n)
 
 abbrev pub rawLength : List ℕ → ℕ → ℕ
-rawLength m i = 64 + 5 * ordersAt m i
+rawLength m i = headSize + rowSize * ordersAt m i
 
 unfoldable pub rawContents : List ℕ → ℕ → ℕ → ℕ → List ℕ
 rawContents m i start zero = []

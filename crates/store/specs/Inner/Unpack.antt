@@ -7,7 +7,7 @@ use lib.Dec.{leb, eqb}
 use lib.ListN.{length, getD, take, drop}
 use Rattle.model.specs.Shipment.{mostShipments, mostRows}
 use Rattle.model.specs.declared.Row.{Row}
-use Rattle.memory.specs.Layout.{headBytes, OnlyShipment}
+use Rattle.memory.specs.Layout.{headSize, rowSize, headBytes, rowBytes, OnlyRow, OnlyShipment}
 use Rattle.memory.specs.Rows.{rowOf}
 use Rattle.memory.specs.Read.{rowsFrom, flagsFrom, shipmentsIn, bookIn}
 use Rattle.store.specs.Stored.{form}
@@ -16,7 +16,7 @@ use Rattle.store.specs.Inner.Walk.{headFrom, countFrom, bodyFrom, rowsFr
 -- A body stands whole at a place, as entry i says, and its orders fit behind k others.
 abbrev pub isBody : List ℕ → ℕ → ℕ → ℕ → Bool
 isBody bytes i k at =
-    leb (at + 64) (length bytes)
+    leb (at + headSize) (length bytes)
     && (leb (k + countFrom bytes at) mostRows && (leb (at + bodyFrom bytes at) (length bytes) && isEntry bytes i at (bodyFrom bytes at)))
 
 -- The form, the number of shipments, and room for the contents table.
@@ -27,12 +27,17 @@ hasContents bytes =
 
 -- The row of an order, where the first of those from a place on is row k.
 abbrev pub givenRow : List ℕ → ℕ → ℕ → ℕ → Row
-givenRow bytes at k r = rowOf (take 5 (drop (at + 5 * (r - k)) bytes))
+givenRow bytes at k r = rowOf (take rowSize (drop (at + rowSize * (r - k)) bytes))
+
+-- Row k is what the bytes of an order say, and nothing else moves.
+pub record OrderStored (order : List ℕ) (k : ℕ) (m m′ : List ℕ) : Type 0 where
+  pub row : rowOf (rowBytes m′ k) ≡ rowOf order
+  pub only : OnlyRow k m m′
 
 -- Head i and the rows from the k-th on are those of the body at a place, and nothing else moved.
 pub record BodyUnpacked (bytes : List ℕ) (i k at : ℕ) (m m′ : List ℕ) : Type 0 where
   pub head : headBytes m′ i ≡ headFrom bytes at
-  pub rows : rowsFrom m′ k (countFrom bytes at) ≡ rowsFromBytes bytes (at + 64) (countFrom bytes at)
+  pub rows : rowsFrom m′ k (countFrom bytes at) ≡ rowsFromBytes bytes (at + headSize) (countFrom bytes at)
   pub only : OnlyShipment i k (countFrom bytes at) m m′
 
 -- The n bodies from a place on are the book in memory, if they are whole.

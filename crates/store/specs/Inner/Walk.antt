@@ -8,30 +8,31 @@ use Rattle.model.specs.Shipment.{mostShipments, mostRows}
 use Rattle.model.specs.Book.{Book}
 use Rattle.model.specs.declared.Row.{Row}
 use Rattle.memory.specs.Number.{numberAt}
+use Rattle.memory.specs.Layout.{headSize, rowSize}
 use Rattle.memory.specs.Rows.{rowOf}
 use Rattle.memory.specs.Heads.{flagsInForm, orderCountIn, shipmentIn}
 use Rattle.store.specs.Stored.{form}
 
 -- The head of a body that starts at a place, how many orders it says, and how long the body is.
 abbrev pub headFrom : List ℕ → ℕ → List ℕ
-headFrom bytes at = take 64 (drop at bytes)
+headFrom bytes at = take headSize (drop at bytes)
 
 abbrev pub countFrom : List ℕ → ℕ → ℕ
 countFrom bytes at = orderCountIn (headFrom bytes at)
 
 abbrev pub bodyFrom : List ℕ → ℕ → ℕ
-bodyFrom bytes at = 64 + 5 * countFrom bytes at
+bodyFrom bytes at = headSize + rowSize * countFrom bytes at
 
 -- So many orders, from a place on.
 unfoldable pub rowsFromBytes : List ℕ → ℕ → ℕ → List Row
 rowsFromBytes bytes at zero = []
-rowsFromBytes bytes at (suc n) = rowOf (take 5 (drop at bytes)) ∷ rowsFromBytes bytes (at + 5) n
+rowsFromBytes bytes at (suc n) = rowOf (take rowSize (drop at bytes)) ∷ rowsFromBytes bytes (at + rowSize) n
 
 -- The book of so many bodies, the first of which starts at a place, whatever the bytes are.
 unfoldable pub bookFrom : List ℕ → ℕ → ℕ → Book
 bookFrom bytes at zero = []
 bookFrom bytes at (suc n) =
-    shipmentIn (headFrom bytes at) (rowsFromBytes bytes (at + 64) (countFrom bytes at)) ∷ bookFrom bytes (at + bodyFrom bytes at) n
+    shipmentIn (headFrom bytes at) (rowsFromBytes bytes (at + headSize) (countFrom bytes at)) ∷ bookFrom bytes (at + bodyFrom bytes at) n
 
 -- Entry i of the contents table says where a body starts and how long it is.
 abbrev pub isEntry : List ℕ → ℕ → ℕ → ℕ → Bool
@@ -41,7 +42,7 @@ isEntry bytes i start long = eqb (numberAt 4 bytes (2 + 8 * i)) start && eqb (nu
 unfoldable pub wholeFrom : List ℕ → ℕ → ℕ → ℕ → ℕ → Bool
 wholeFrom bytes i k at zero = eqb at (length bytes)
 wholeFrom bytes i k at (suc n) =
-    leb (at + 64) (length bytes)
+    leb (at + headSize) (length bytes)
     && (leb (k + countFrom bytes at) mostRows
     && (leb (at + bodyFrom bytes at) (length bytes)
     && (isEntry bytes i at (bodyFrom bytes at)

@@ -1,19 +1,13 @@
 -- `acts::order::handle_at` asks document 01's questions in turn.
-use Rattle.money.specs.declared.Fee.{Fee}
-use Rattle.memory.specs.Rows.{rowOf}
-use mathlib.Core.Path.{_∙_, ap}
 use native.Mathlib.Omega.{arith}
 use borrow.Author.Tests.{not-true, not-false}
-use Rattle.acts.proofs.Orders.{unpaired-at, no-order-at, from-one, to-count, unfit-at, handled-at}
+use Rattle.acts.proofs.Orders.{unpaired-at, no-order-at, from-one, row-there, unfit-at, handled-at}
 use borrow.Author.Needs.{needs}
 use Rattle.acts.proofs.order.handle_at.Statement.{statement}
 use Rattle.acts.proofs.order.handle_at.Tie as tie
 
 head-bytes-requires : tie.Need-head-bytes-requires
 head-bytes-requires c κs = search needs
-
-fee-requires : tie.Need-fee-requires
-fee-requires c κs = search needs
 
 is-paired-requires : tie.Need-is-paired-requires
 is-paired-requires c κs = search needs
@@ -24,7 +18,7 @@ same-length c = search needs
 returns : tie.Need-returns
 returns c =
     let paired = c .before in
-    unpaired-at _ _ _ _ _ (paired .before .before .head-bytes .ensures .0) (paired .is-paired .ensures) (not-true _ (c .if1 .taken))
+    unpaired-at _ _ _ _ _ (paired .before .head-bytes .ensures .0) (paired .is-paired .ensures) (not-true _ (c .if1 .taken))
 
 orders-requires : tie.Need-orders-requires
 orders-requires c κs = search needs
@@ -41,9 +35,9 @@ returns-2 c =
     let counted = asked .before in
     let else-paired = counted .before in
     let paired = else-paired .before in
-    let head = paired .before .before in
-    let start = head .before .before .before .args in
-    no-order-at (start .memory .now) (start .i) (start .k) (start .deed) (start .number)
+    let head = paired .before in
+    let start = head .before .before .before in
+    no-order-at (start .args .memory .now) (start .args .i) (start .args .k) (start .args .deed) (start .args .number)
     (head .head-bytes .ensures .0) (paired .is-paired .ensures) (not-false _ (else-paired .if1 .left)) (counted .orders .ensures .0) (asked .is-between .ensures)
     (not-true _ (c .if2 .taken))
 
@@ -53,9 +47,9 @@ sub-at c =
     let counted = asked .before in
     let else-paired = counted .before in
     let paired = else-paired .before in
-    let head = paired .before .before in
-    let start = head .before .before .before .args in
-    from-one (start .memory .now) (start .i) (start .k) (start .deed) (start .number)
+    let head = paired .before in
+    let start = head .before .before .before in
+    from-one (start .args .memory .now) (start .args .i) (start .args .k) (start .args .deed) (start .args .number)
     (head .head-bytes .ensures .0) (paired .is-paired .ensures) (not-false _ (else-paired .if1 .left)) (counted .orders .ensures .0) (asked .is-between .ensures)
     (not-false _ (c .if2 .left))
 
@@ -65,30 +59,61 @@ add-at c =
     let counted = asked .before in
     let else-paired = counted .before in
     let paired = else-paired .before in
-    let head = paired .before .before in
-    let start = head .before .before .before .args in
-    let from = from-one (start .memory .now) (start .i) (start .k) (start .deed) (start .number)
-    (head .head-bytes .ensures .0) (paired .is-paired .ensures) (not-false _ (else-paired .if1 .left)) (counted .orders .ensures .0) (asked .is-between .ensures) (not-false _ (c .if2 .left)) in
-    let to = to-count (start .memory .now) (start .i) (start .k) (start .deed) (start .number)
-    (head .head-bytes .ensures .0) (paired .is-paired .ensures) (not-false _ (else-paired .if1 .left)) (counted .orders .ensures .0) (asked .is-between .ensures) (not-false _ (c .if2 .left)) in
-    record { fits = omega (arith, from, to, head .before .before .before .pre .room) }
+    let head = paired .before in
+    let start = head .before .before .before in
+    record {
+      fits = omega (
+        arith,
+        row-there (start .args .memory .now) (start .args .i) (start .args .k) (start .args .deed) (start .args .number)
+            (head .head-bytes .ensures .0) (paired .is-paired .ensures) (not-false _ (else-paired .if1 .left)) (counted .orders .ensures .0) (asked .is-between .ensures)
+            (not-false _ (c .if2 .left)) (start .pre),
+      );
+    }
 
-row-bytes-requires : tie.Need-row-bytes-requires
-row-bytes-requires c κs =
-    let asked = c .before .before in
+fee-requires : tie.Need-fee-requires
+fee-requires c κs =
+    let within = c .before in
+    let asked = within .before in
     let counted = asked .before in
     let else-paired = counted .before in
     let paired = else-paired .before in
-    let head = paired .before .before in
-    let start = head .before .before .before .args in
-    let from = from-one (start .memory .now) (start .i) (start .k) (start .deed) (start .number)
-    (head .head-bytes .ensures .0) (paired .is-paired .ensures) (not-false _ (else-paired .if1 .left)) (counted .orders .ensures .0) (asked .is-between .ensures) (not-false _ (c .before .if2 .left)) in
-    let to = to-count (start .memory .now) (start .i) (start .k) (start .deed) (start .number)
-    (head .head-bytes .ensures .0) (paired .is-paired .ensures) (not-false _ (else-paired .if1 .left)) (counted .orders .ensures .0) (asked .is-between .ensures) (not-false _ (c .before .if2 .left)) in
-    (omega (arith, from, to, head .before .before .before .pre .room), search needs)
+    let head = paired .before in
+    let start = head .before .before .before in (
+      row-there (start .args .memory .now) (start .args .i) (start .args .k) (start .args .deed) (start .args .number)
+          (head .head-bytes .ensures .0) (paired .is-paired .ensures) (not-false _ (else-paired .if1 .left)) (counted .orders .ensures .0) (asked .is-between .ensures)
+          (not-false _ (within .if2 .left)) (start .pre),
+      search needs,
+    )
 
-read-row-requires : tie.Need-read-row-requires
-read-row-requires c κs = search needs
+amount-requires : tie.Need-amount-requires
+amount-requires c κs =
+    let within = c .before .before .before in
+    let asked = within .before in
+    let counted = asked .before in
+    let else-paired = counted .before in
+    let paired = else-paired .before in
+    let head = paired .before in
+    let start = head .before .before .before in (
+      row-there (start .args .memory .now) (start .args .i) (start .args .k) (start .args .deed) (start .args .number)
+          (head .head-bytes .ensures .0) (paired .is-paired .ensures) (not-false _ (else-paired .if1 .left)) (counted .orders .ensures .0) (asked .is-between .ensures)
+          (not-false _ (within .if2 .left)) (start .pre),
+      search needs,
+    )
+
+state-requires : tie.Need-state-requires
+state-requires c κs =
+    let within = c .before .before .before .before .before in
+    let asked = within .before in
+    let counted = asked .before in
+    let else-paired = counted .before in
+    let paired = else-paired .before in
+    let head = paired .before in
+    let start = head .before .before .before in (
+      row-there (start .args .memory .now) (start .args .i) (start .args .k) (start .args .deed) (start .args .number)
+          (head .head-bytes .ensures .0) (paired .is-paired .ensures) (not-false _ (else-paired .if1 .left)) (counted .orders .ensures .0) (asked .is-between .ensures)
+          (not-false _ (within .if2 .left)) (start .pre),
+      search needs,
+    )
 
 does-fit-requires : tie.Need-does-fit-requires
 does-fit-requires c κs = search needs
@@ -98,34 +123,36 @@ same-length-3 c = search needs
 
 returns-3 : tie.Need-returns-3
 returns-3 c =
-    let asked = c .before .before .before .before .before .before .before in
+    let fitted = c .before in
+    let read = fitted .before in
+    let within = read .before .before .before .before .before .before in
+    let asked = within .before in
     let counted = asked .before in
     let else-paired = counted .before in
     let paired = else-paired .before in
-    let head = paired .before .before in
-    let start = head .before .before .before .args in
-    let fitted = c .before in
-    let row = fitted .before .before in
-    unfit-at (start .memory .now) (start .i) (start .k) (start .deed) (start .number)
+    let head = paired .before in
+    let start = head .before .before .before in
+    unfit-at (start .args .memory .now) (start .args .i) (start .args .k) (start .args .deed) (start .args .number)
     (head .head-bytes .ensures .0) (paired .is-paired .ensures) (not-false _ (else-paired .if1 .left)) (counted .orders .ensures .0) (asked .is-between .ensures)
-    (not-false _ (c .before .before .before .before .before .before .if2 .left)) (row .read-row .ensures ∙ ap rowOf (row .before .row-bytes .ensures .0)) (fitted .does-fit .ensures) (not-true _ (c .if3 .taken))
+    (not-false _ (within .if2 .left)) (read .state .ensures) (fitted .does-fit .ensures) (not-true _ (c .if3 .taken))
 
 state-after-requires : tie.Need-state-after-requires
 state-after-requires c κs = search needs
 
 store-state-requires : tie.Need-store-state-requires
 store-state-requires c κs =
-    let asked = c .before .before .before .before .before .before .before .before .before in
+    let within = c .before .before .before .before .before .before .before .before .before .before in
+    let asked = within .before in
     let counted = asked .before in
     let else-paired = counted .before in
     let paired = else-paired .before in
-    let head = paired .before .before in
-    let start = head .before .before .before .args in
-    let from = from-one (start .memory .now) (start .i) (start .k) (start .deed) (start .number)
-    (head .head-bytes .ensures .0) (paired .is-paired .ensures) (not-false _ (else-paired .if1 .left)) (counted .orders .ensures .0) (asked .is-between .ensures) (not-false _ (c .before .before .before .before .before .before .before .before .if2 .left)) in
-    let to = to-count (start .memory .now) (start .i) (start .k) (start .deed) (start .number)
-    (head .head-bytes .ensures .0) (paired .is-paired .ensures) (not-false _ (else-paired .if1 .left)) (counted .orders .ensures .0) (asked .is-between .ensures) (not-false _ (c .before .before .before .before .before .before .before .before .if2 .left)) in
-    (omega (arith, from, to, head .before .before .before .pre .room), search needs)
+    let head = paired .before in
+    let start = head .before .before .before in (
+      row-there (start .args .memory .now) (start .args .i) (start .args .k) (start .args .deed) (start .args .number)
+          (head .head-bytes .ensures .0) (paired .is-paired .ensures) (not-false _ (else-paired .if1 .left)) (counted .orders .ensures .0) (asked .is-between .ensures)
+          (not-false _ (within .if2 .left)) (start .pre),
+      search needs,
+    )
 
 same-length-4 : tie.Need-same-length-4
 same-length-4 c = search needs
@@ -136,26 +163,27 @@ returns-4 c =
     let changed = stored .before in
     let else-fit = changed .before .before in
     let fitted = else-fit .before in
-    let row = fitted .before .before in
-    let else-within = row .before .before .before in
-    let asked = else-within .before in
+    let read = fitted .before in
+    let paying = read .before .before in
+    let charged = paying .before .before in
+    let within = charged .before .before in
+    let asked = within .before in
     let counted = asked .before in
     let else-paired = counted .before in
     let paired = else-paired .before in
-    let head = paired .before .before in
+    let head = paired .before in
     let start = head .before .before .before in
     rw (stored .store-state .ensures, changed .state-after .ensures)
     (handled-at (start .args .memory .now) (start .args .i) (start .args .k) (start .args .deed) (start .args .number)
     (head .head-bytes .ensures .0) (paired .is-paired .ensures) (not-false _ (else-paired .if1 .left)) (counted .orders .ensures .0) (asked .is-between .ensures)
-    (not-false _ (else-within .if2 .left)) (row .read-row .ensures ∙ ap rowOf (row .before .row-bytes .ensures .0)) (fitted .does-fit .ensures)
-    (start .pre) _ (ap (λ (one : Fee). one .0) (paired .before .fee .ensures .0)) (not-false _ (else-fit .if3 .left)))
+    (not-false _ (within .if2 .left)) (read .state .ensures) (fitted .does-fit .ensures)
+    (start .pre) (charged .fee .ensures .0) (paying .amount .ensures .0) (not-false _ (else-fit .if3 .left)))
 
 pub handle-at-spec : {M : Type 1} → statement M
 handle-at-spec =
     tie.close
     (tie.spec
     head-bytes-requires
-    fee-requires
     is-paired-requires
     same-length
     returns
@@ -165,8 +193,9 @@ handle-at-spec =
     returns-2
     sub-at
     add-at
-    row-bytes-requires
-    read-row-requires
+    fee-requires
+    amount-requires
+    state-requires
     does-fit-requires
     same-length-3
     returns-3

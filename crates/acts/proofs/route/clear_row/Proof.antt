@@ -1,16 +1,11 @@
 -- `acts::route::clear_row` counts what it took, and adds the order's worth as many times.
-use mathlib.Core.Path.{refl, ap, _∙_}
+use mathlib.Core.Path.{refl, ap}
 use Prim.Native.Nat.{_+_, _*_}
 use native.Mathlib.Omega.{arith}
-use Rattle.model.specs.Shipment.{worth as worthOf}
-use Rattle.memory.specs.Rows.{rowOf}
 use Rattle.acts.proofs.Returns.{twice-at-most}
 use borrow.Author.Needs.{needs}
 use Rattle.acts.proofs.route.clear_row.Statement.{statement}
 use Rattle.acts.proofs.route.clear_row.Tie as tie
-
-row-bytes-requires : tie.Need-row-bytes-requires
-row-bytes-requires c κs = search needs
 
 worth-of-requires : tie.Need-worth-of-requires
 worth-of-requires c κs = search needs
@@ -40,15 +35,13 @@ returns : tie.Need-returns
 returns c =
     let stored = c .before .before .before .before in
     let priced = stored .before .before in
-    let read = priced .before in
-    let args = read .before .before .before .before .args in
+    let args = priced .before .before .before .before .args in
     let took = stored .store-return .result in
     let twice = twice-at-most (priced .worth-of .result) took (stored .store-return .ensures .1) in (
-      λ route s is is-fee. record {
+      λ route is. record {
         taken = took;
         row = stored .store-return .ensures .0 route (args .money) is;
-        added = ap (λ n. args .taken .worth + n * took)
-            (priced .worth-of .ensures .0 s is-fee ∙ ap (λ row. worthOf (args .money) s (rowOf row)) (read .row-bytes .ensures .0));
+        added = ap (λ n. args .taken .worth + n * took) (priced .worth-of .ensures .0);
         counted = refl;
       },
       omega arith,
@@ -59,7 +52,6 @@ pub clear-row-spec : {M : Type 1} → statement M
 clear-row-spec =
     tie.close
     (tie.spec
-    row-bytes-requires
     worth-of-requires
     store-return-requires
     mul-sum

@@ -1,5 +1,4 @@
 -- `acts::route::return_at` asks document 01's questions in turn.
-use Rattle.money.specs.declared.Fee.{Fee}
 use Rattle.money.proofs.Sums.{money-is}
 use Rattle.acts.specs.Answers.{returningOf}
 use Rattle.acts.proofs.Returns.{waiting-within, unpaired-at, undelivered-fee-at, worthless-at, nothing-at, returned-at}
@@ -40,20 +39,16 @@ returns-2 c =
     undelivered-fee-at (start .memory .now) (start .i) (start .k) (head .head-bytes .ensures .0) (start .route) (start .money)
     (paired .is-paired .ensures) (not-false _ (else-paired .if1 .left)) (barred .is-zpr-with-o .ensures) (c .if2 .taken)
 
-fee-requires : tie.Need-fee-requires
-fee-requires c κs = search needs
-
-are-worth-nothing-requires : tie.Need-are-worth-nothing-requires
-are-worth-nothing-requires c κs = search needs
+waits-in-vain-requires : tie.Need-waits-in-vain-requires
+waits-in-vain-requires c κs = search needs
 
 same-length-3 : tie.Need-same-length-3
 same-length-3 c = search needs
 
 returns-3 : tie.Need-returns-3
 returns-3 c =
-    let worth = c .before in
-    let priced = worth .before in
-    let else-barred = priced .before in
+    let vain = c .before in
+    let else-barred = vain .before .before in
     let barred = else-barred .before in
     let else-paired = barred .before in
     let paired = else-paired .before in
@@ -61,13 +56,12 @@ returns-3 c =
     let start = head .before .before .before .args in
     worthless-at (start .memory .now) (start .i) (start .k) (head .head-bytes .ensures .0) (start .route) (start .money)
     (paired .is-paired .ensures) (not-false _ (else-paired .if1 .left)) (barred .is-zpr-with-o .ensures) (else-barred .if2 .left)
-    (ap (λ (one : Fee). one .0) (priced .fee .ensures .0)) (worth .are-worth-nothing .ensures) (c .if3 .taken)
+    (vain .waits-in-vain .ensures) (c .if3 .taken)
 
 clear-requires : tie.Need-clear-requires
 clear-requires c κs =
-    let worth = c .before .before in
-    let priced = worth .before in
-    let else-barred = priced .before in
+    let vain = c .before .before in
+    let else-barred = vain .before .before in
     let barred = else-barred .before in
     let else-paired = barred .before in
     let paired = else-paired .before in
@@ -88,9 +82,8 @@ returns-4 : tie.Need-returns-4
 returns-4 c =
     let cleared = c .before .before .before .before in
     let else-worth = cleared .before .before in
-    let worth = else-worth .before in
-    let priced = worth .before in
-    let else-barred = priced .before in
+    let vain = else-worth .before in
+    let else-barred = vain .before .before in
     let barred = else-barred .before in
     let else-paired = barred .before in
     let paired = else-paired .before in
@@ -98,7 +91,7 @@ returns-4 c =
     let start = head .before .before .before in
     nothing-at (start .args .memory .now) (start .args .i) (start .args .k) (head .head-bytes .ensures .0) (start .args .route) (start .args .money)
     (paired .is-paired .ensures) (not-false _ (else-paired .if1 .left)) (barred .is-zpr-with-o .ensures) (else-barred .if2 .left)
-    (ap (λ (one : Fee). one .0) (priced .fee .ensures .0)) (worth .are-worth-nothing .ensures) (else-worth .if3 .left)
+    (vain .waits-in-vain .ensures) (else-worth .if3 .left)
     (start .pre) (cleared .clear .ensures) (sym (c .before .grosze .ensures) ∙ c .if4 .taken)
 
 of-requires : tie.Need-of-requires
@@ -112,9 +105,8 @@ returns-5 c =
     let else-nothing = c .before in
     let cleared = else-nothing .before .before .before .before in
     let else-worth = cleared .before .before in
-    let worth = else-worth .before in
-    let priced = worth .before in
-    let else-barred = priced .before in
+    let vain = else-worth .before in
+    let else-barred = vain .before .before in
     let barred = else-barred .before in
     let else-paired = barred .before in
     let paired = else-paired .before in
@@ -124,7 +116,7 @@ returns-5 c =
     rw answered
     (returned-at (start .args .memory .now) (start .args .i) (start .args .k) (head .head-bytes .ensures .0) (start .args .route) (start .args .money)
     (paired .is-paired .ensures) (not-false _ (else-paired .if1 .left)) (barred .is-zpr-with-o .ensures) (else-barred .if2 .left)
-    (ap (λ (one : Fee). one .0) (priced .fee .ensures .0)) (worth .are-worth-nothing .ensures) (else-worth .if3 .left)
+    (vain .waits-in-vain .ensures) (else-worth .if3 .left)
     (start .pre) (cleared .clear .ensures) (omega (arith, else-nothing .if4 .left, else-nothing .before .grosze .ensures)))
 
 pub return-at-spec : {M : Type 1} → statement M
@@ -138,8 +130,7 @@ return-at-spec =
     is-zpr-with-o-requires
     same-length-2
     returns-2
-    fee-requires
-    are-worth-nothing-requires
+    waits-in-vain-requires
     same-length-3
     returns-3
     clear-requires

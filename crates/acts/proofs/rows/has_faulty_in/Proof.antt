@@ -13,11 +13,8 @@ abbrev μ-loop : tie.MeasureT-loop
 loop-holds : tie.Need-loop-holds Inv-loop μ-loop
 loop-holds c = looking-begun (c .before .pre .2)
 
-row-bytes-requires : tie.Need-row-bytes-requires Inv-loop μ-loop
-row-bytes-requires c κs = search needs
-
-state-bits-requires : tie.Need-state-bits-requires Inv-loop μ-loop
-state-bits-requires c κs = search needs
+code-requires : tie.Need-code-requires Inv-loop μ-loop
+code-requires c κs = search needs
 
 add-i : tie.Need-add-i Inv-loop μ-loop
 add-i c = search needs
@@ -29,13 +26,11 @@ loop-less : tie.Need-loop-less Inv-loop μ-loop
 loop-less c = search needs
 
 loop-again : tie.Need-loop-again Inv-loop μ-loop
-loop-again c =
-    let row = c .before in
-    looking-on (row .before .before .loop .inv) _ (row .before .loop-test .taken) (row .row-bytes .ensures .0) (c .state-bits .ensures .1)
+loop-again c = looking-on (c .before .before .loop .inv) _ (c .before .loop-test .taken) (c .code .ensures .1) (c .code .ensures .2)
 
 returns : tie.Need-returns Inv-loop μ-loop
 returns c = looking-done (c .before .loop .inv) (c .loop-test .left)
 
 pub has-faulty-in-spec : {M : Type 1} → statement M
 has-faulty-in-spec =
-    tie.close (tie.spec Inv-loop μ-loop loop-holds row-bytes-requires state-bits-requires add-i sub-left loop-less loop-again returns)
+    tie.close (tie.spec Inv-loop μ-loop loop-holds code-requires add-i sub-left loop-less loop-again returns)

@@ -2,7 +2,7 @@
 use Rattle.money.specs.declared.Money.the-variants.{K, O}
 use Rattle.memory.proofs.HeadFields.{accepted-within}
 use Rattle.acts.proofs.PairingActs.{no-pairing-at, faults-at, short-at, paired-at}
-use Rattle.acts.proofs.Needs.{room-at, few-at, rows-waiting}
+use Rattle.acts.proofs.Needs.{room-at, rows-waiting}
 use borrow.Author.Tests.{not-true, not-false}
 use borrow.Author.Needs.{needs}
 use Rattle.acts.proofs.shipment.pair_at.Statement.{statement}
@@ -71,14 +71,14 @@ amounts-accepted-requires c κs =
 less-requires : tie.Need-less-requires
 less-requires c κs = search needs
 
-fees-requires : tie.Need-fees-requires
-fees-requires c κs =
+fees-in-requires : tie.Need-fees-in-requires
+fees-in-requires c κs =
     let counted = c .before .before .before .before .before in
     let else-waiting = counted .before in
     let waiting = else-waiting .before in
     let head = waiting .before in
     let start = head .before .before .before in
-    (head .head-bytes .ensures .1, few-at _ (start .args .i) (start .args .k) (start .pre) (head .head-bytes .ensures .0) (counted .orders .ensures .0))
+    (room-at _ (start .args .i) _ (start .pre) (head .head-bytes .ensures .0) (counted .orders .ensures .0), start .pre .enough)
 
 fees-accepted-requires : tie.Need-fees-accepted-requires
 fees-accepted-requires c κs =
@@ -114,7 +114,7 @@ returns-3 c =
     short-at _ _ _ (start .pre) (head .head-bytes .ensures .0) (waiting .is-waiting .ensures) (not-false _ (else-waiting .if1 .left))
     (counted .orders .ensures .0) (asked .may-pair .ensures) (not-false _ (may .if2 .left))
     (amount .less .ensures) (fee .less2 .ensures)
-    (amounts .amounts-in .ensures .0) (fees .fees .ensures .0) (k-in .amounts-accepted .ensures) (o-in .fees-accepted .ensures) (short .is-short .ensures) (c .if3 .taken)
+    (amounts .amounts-in .ensures .0) (fees .fees-in .ensures .0) (k-in .amounts-accepted .ensures) (o-in .fees-accepted .ensures) (short .is-short .ensures) (c .if3 .taken)
 
 store-stage-requires : tie.Need-store-stage-requires
 store-stage-requires c κs =
@@ -148,7 +148,7 @@ returns-4 c =
     (paired-at _ _ _ (start .pre) (head .head-bytes .ensures .0) (waiting .is-waiting .ensures) (not-false _ (else-waiting .if1 .left))
     (counted .orders .ensures .0) (asked .may-pair .ensures) (not-false _ (may .if2 .left))
     (amount .less .ensures) (fee .less2 .ensures)
-    (amounts .amounts-in .ensures .0) (fees .fees .ensures .0) (k-in .amounts-accepted .ensures) (o-in .fees-accepted .ensures) (short .is-short .ensures) (covered .if3 .left))
+    (amounts .amounts-in .ensures .0) (fees .fees-in .ensures .0) (k-in .amounts-accepted .ensures) (o-in .fees-accepted .ensures) (short .is-short .ensures) (covered .if3 .left))
 
 pub pair-at-spec : {M : Type 1} → statement M
 pair-at-spec =
@@ -165,7 +165,7 @@ pair-at-spec =
     amounts-in-requires
     amounts-accepted-requires
     less-requires
-    fees-requires
+    fees-in-requires
     fees-accepted-requires
     less-requires-2
     is-short-requires

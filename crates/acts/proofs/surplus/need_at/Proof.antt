@@ -1,9 +1,11 @@
 -- `acts::surplus::need_at` goes by the stage and the money.
 use mathlib.Core.Path.{ap, _∙_}
 use Rattle.money.specs.Money.{amount, fee, sumOf}
+use Rattle.money.specs.declared.Amount.{Amount}
+use Rattle.money.specs.declared.Fee.{Fee}
 use Rattle.money.specs.declared.Sum.the-variants.{Amounts, Fees}
 use Rattle.acts.proofs.SurplusActs.{none-needed, needed}
-use Rattle.acts.proofs.Needs.{room-at, few-at, need-in-fees, need-in-amounts}
+use Rattle.acts.proofs.Needs.{room-at, need-is}
 use Rattle.money.specs.declared.Money.the-variants.{K, O}
 use borrow.Author.Tests.{not-true, not-false}
 use borrow.Author.Needs.{needs}
@@ -47,15 +49,15 @@ amounts-in-requires c κs =
 enum-told-2 : tie.Need-enum-told-2
 enum-told-2 c = search needs
 
-fees-requires : tie.Need-fees-requires
-fees-requires c κs =
+fees-in-requires : tie.Need-fees-in-requires
+fees-in-requires c κs =
     let told = c in
     let counted = told .before .before in
     let else-paired = counted .before in
     let paired = else-paired .before in
     let head = paired .before in
     let start = head .before .before in
-    (head .head-bytes .ensures .1, few-at _ (start .args .i) (start .args .k) (start .pre) (head .head-bytes .ensures .0) (counted .orders .ensures .0))
+    (room-at _ (start .args .i) _ (start .pre) (head .head-bytes .ensures .0) (counted .orders .ensures .0), start .pre .enough)
 
 returns-2 : tie.Need-returns-2
 unfolding sumOf
@@ -68,7 +70,7 @@ returns-2 c =
     let start = head .before .before in
     rw (told .enum-told .given .1)
     (ap (λ grosze. Amounts (amount grosze)) (needed _ _ _ (start .pre) (head .head-bytes .ensures .0) K (paired .is-paired .ensures) (not-false _ (else-paired .if1 .left))
-    (need-in-amounts _ _ _ (start .pre) (head .head-bytes .ensures .0) (counted .orders .ensures .0) (c .amounts-in .ensures .0))))
+    (ap (λ (all : Amount). all .0) (c .amounts-in .ensures .0) ∙ need-is _ _ _ (start .pre) (head .head-bytes .ensures .0) (counted .orders .ensures .0) K)))
 
 returns-3 : tie.Need-returns-3
 unfolding sumOf
@@ -81,7 +83,7 @@ returns-3 c =
     let start = head .before .before in
     rw (told .enum-told2 .given .1)
     (ap (λ grosze. Fees (fee grosze)) (needed _ _ _ (start .pre) (head .head-bytes .ensures .0) O (paired .is-paired .ensures) (not-false _ (else-paired .if1 .left))
-    (need-in-fees _ _ _ (start .pre) (head .head-bytes .ensures .0) (counted .orders .ensures .0) (c .fees .ensures .0))))
+    (ap (λ (all : Fee). all .0) (c .fees-in .ensures .0) ∙ need-is _ _ _ (start .pre) (head .head-bytes .ensures .0) (counted .orders .ensures .0) O)))
 
 pub need-at-spec : {M : Type 1} → statement M
 need-at-spec =
@@ -95,6 +97,6 @@ need-at-spec =
     enum-told
     amounts-in-requires
     enum-told-2
-    fees-requires
+    fees-in-requires
     returns-2
     returns-3)

@@ -17,17 +17,22 @@ entry-number-requires c κs = search needs
 entry-number-requires-2 : tie.Need-entry-number-requires-2
 entry-number-requires-2 c κs = search needs
 
+rates-in-requires : tie.Need-rates-in-requires
+rates-in-requires c κs = search needs
+
 returns : tie.Need-returns
 returns c =
-    let today = c .before in
-    let fees = today .before in
+    let fields = c .before in
+    let today = fields .before in
+    let flat = today .before in
     λ i. record {
       today = record { 0 = today .entry-number .ensures i };
-      fees = (fees .fees-of .ensures ∙ ap asFees (fees .before .fees-in .ensures)) i;
-      fields = c .entry-number2 .ensures i;
+      flat = (flat .fees-of .ensures ∙ ap asFees (flat .before .fees-in .ensures)) i;
+      fields = fields .entry-number2 .ensures i;
+      rates = c .rates-in .ensures i;
     }
 
 pub profile-in-spec : {M : Type 1} → statement M
 profile-in-spec =
     tie.close
-    (tie.spec fees-in-requires fees-of-requires entry-number-requires entry-number-requires-2 returns)
+    (tie.spec fees-in-requires fees-of-requires entry-number-requires entry-number-requires-2 rates-in-requires returns)

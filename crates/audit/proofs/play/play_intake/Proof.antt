@@ -1,4 +1,4 @@
--- `audit::play::play_intake` takes in the file of the entry, under its name and with its profile; numbers that are no fees are 905.
+-- `audit::play::play_intake` takes in the file of the entry, under its name and with its profile; flat parts that are no fees are 905.
 use mathlib.Core.Path.{refl, sym, ap, _∙_}
 use borrow.Author.Tests.{not-true, not-false}
 use Rattle.epe.specs.Profile.{asFees, feesFit}

@@ -6,13 +6,13 @@ use Rattle.book.proofs.enter.enter.Statement.{statement}
 use Rattle.book.proofs.enter.enter.Tie as tie
 
 enter-orders-requires : tie.Need-enter-orders-requires
-enter-orders-requires c κs = let fits = c .before .before .before .pre in (fits .room, fits .enough, fits .in-range)
+enter-orders-requires c κs = let fits = c .before .before .before .pre in (fits .room, fits .enough, fits .terms-fit, fits .in-range, fits .charged)
 
 enter-head-requires : tie.Need-enter-head-requires
 enter-head-requires c κs =
     let rows = c .before .before .before in
     let fits = rows .before .before .before .before .pre in
-    (fits .few, rw (rows .enter-orders .ensures .only .as-long) (fits .enough), fits .in-form, fits .fee-fits, omega (arith, fits .room))
+    (fits .few, rw (rows .enter-orders .ensures .only .as-long) (fits .enough), fits .in-form, fits .terms-fit, omega (arith, fits .room))
 
 add-store-shipments : tie.Need-add-store-shipments
 add-store-shipments c = search needs

@@ -20,7 +20,7 @@ sub-if2 c =
     let rows = c in
     let few = rows .before .before in
     let start = few .before .before .before in
-    from-within _ _ (start .args .name) (start .args .fee .0) (start .args .n) (start .args .faulty) (start .args .kept .now) (start .pre .0) (few .if1 .left) (rows .rows-of .ensures)
+    from-within _ _ (start .args .name) (start .args .terms) (start .args .n) (start .args .faulty) (start .args .kept .now) (start .pre .0) (few .if1 .left) (rows .rows-of .ensures)
 
 same-length : tie.Need-same-length
 same-length c = search needs

@@ -1,5 +1,5 @@
 -- `book::enter::enter_orders` enters order after order of the table.
-use Rattle.book.proofs.Entering.{kept-in-range, one-more-entered}
+use Rattle.book.proofs.Entering.{kept-enterable, one-more-entered}
 use Rattle.acts.proofs.RowsInTurn.{none-stored}
 use Rattle.book.specs.Inner.Entering.{keptRow}
 use Rattle.acts.specs.Inner.Place.{RowsStored}
@@ -11,10 +11,10 @@ use Rattle.book.proofs.enter.enter_orders.Statement.{statement}
 use Rattle.book.proofs.enter.enter_orders.Tie as tie
 
 abbrev Inv-loop : tie.InvT-loop
-Inv-loop memory₀ k n kept done₀ memory done = RowsStored (keptRow k kept) k done memory₀ memory × (done ≤ n)
+Inv-loop memory₀ k n terms kept done₀ memory done = RowsStored (keptRow terms k kept) k done memory₀ memory × (done ≤ n)
 
 abbrev μ-loop : tie.MeasureT-loop
-μ-loop memory₀ k n kept done₀ memory done = n - done
+μ-loop memory₀ k n terms kept done₀ memory done = n - done
 
 loop-holds : tie.Need-loop-holds Inv-loop μ-loop
 loop-holds c = (none-stored, omega arith)
@@ -30,8 +30,7 @@ enter-order-requires c κs =
     let turn = c .before .before in
     let loop = turn .before .loop in
     let start = turn .before .before .before .before in
-    let range = kept-in-range (start .args .kept .now) (start .args .n) (loop .done) (start .pre .2) (turn .loop-test .taken) (c .order-in .ensures) in
-    (omega (arith, turn .loop-test .taken, start .pre .0), rw (loop .inv .0 .only .as-long) (start .pre .1), range .0, range .1)
+    (omega (arith, turn .loop-test .taken, start .pre .0), rw (loop .inv .0 .only .as-long) (start .pre .1), kept-enterable (start .args .terms) (start .args .kept .now) (start .args .n) (loop .done) (start .pre .2) (start .pre .3) (start .pre .4) (turn .loop-test .taken) (c .order-in .ensures))
 
 add-done : tie.Need-add-done Inv-loop μ-loop
 add-done c = search needs
@@ -46,7 +45,7 @@ loop-again c =
     let turn = order .before .before in
     let loop = turn .before .loop in
     let start = turn .before .before .before .before in
-    (one-more-entered (start .args .kept .now) (loop .inv .0) (order .order-in .ensures) (stored .enter-order .ensures), omega (arith, turn .loop-test .taken))
+    (one-more-entered (start .args .terms) (start .args .kept .now) (omega (arith, start .pre .0, turn .loop-test .taken)) (loop .inv .0) (order .order-in .ensures) (stored .enter-order .ensures), omega (arith, turn .loop-test .taken))
 
 same-length : tie.Need-same-length Inv-loop μ-loop
 same-length c = c .before .loop .inv .0 .only .as-long

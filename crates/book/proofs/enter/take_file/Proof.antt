@@ -1,5 +1,5 @@
 -- `book::enter::take_file` asks the opening and 101, then takes it in.
-use Rattle.book.proofs.IntakeActs.{not-opened, name-in-form, known-at, taken-at}
+use Rattle.book.proofs.IntakeActs.{not-opened, terms-of-name, name-in-form, known-at, taken-at}
 use Rattle.sound.proofs.ReadLaws.{sound-parts}
 use borrow.Author.Tests.{not-true, not-false}
 use native.Mathlib.Omega.{arith}
@@ -57,7 +57,7 @@ take-in-requires c κs =
     let told = parts .before in
     let opened-file = told .before .before in
     let start = opened-file .before .before .before .before in
-    (start .pre .0, start .pre .1, count .shipments .ensures .0, name-in-form (start .args .memory .now) (start .args .profile) (start .args .name .now) (start .args .file .now) (start .pre .0) (start .pre .1) (opened-file .«open» .ensures) (told .enum-told .given .1))
+    (start .pre .0, start .pre .1, count .shipments .ensures .0, name-in-form (start .args .memory .now) (start .args .profile) (start .args .name .now) (start .args .file .now) (start .pre .0) (start .pre .1) (opened-file .«open» .ensures) (told .enum-told .given .1), terms-of-name (start .args .memory .now) (start .args .profile) (start .args .name .now) (start .args .file .now) (start .pre .0) (start .pre .1) (opened-file .«open» .ensures) (told .enum-told .given .1))
 
 same-length-2 : tie.Need-same-length-2
 same-length-2 c = search needs

@@ -18,7 +18,7 @@ returns c =
     let refused = c .before in
     let stated = refused .before .before in
     let start = stated .before .before .before in
-    contents-refused _ _ (start .args .profile) (start .args .name) (start .args .file .now) (start .pre .0) (start .pre .1) (start .pre .2) (start .pre .3) refl
+    contents-refused _ _ (start .args .profile) (start .args .name) (start .args .file .now) (start .pre .0) (start .pre .1) (start .pre .2) (start .pre .3) (start .pre .4) refl
     (two-steps-are-contents .first-refuses _ _ _ (ap (λ (stated : Stated). stated .verdict) (sym (stated .judge-stated .ensures)) ∙ refused .verdict .given .1))
 
 enum-told : tie.Need-enum-told

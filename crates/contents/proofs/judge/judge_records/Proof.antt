@@ -15,7 +15,7 @@ use Rattle.contents.proofs.judge.judge_records.Tie as tie
 returns : tie.Need-returns
 returns c =
     let start = c .before .before .before in
-    (λ t. record { judged = NotAccepted 901; kept = start .pre t }) ∙ records-beyond (start .args .fields) _ _ _ (c .if1 .taken)
+    (λ t. record { judged = NotAccepted 901; kept = start .pre .0 t }) ∙ records-beyond (start .args .fields) _ _ _ _ (c .if1 .taken)
 
 body-of-requires : tie.Need-body-of-requires
 body-of-requires c κs = search needs
@@ -34,8 +34,8 @@ judge-tally-requires c κs = search needs
 
 settle-requires : tie.Need-settle-requires
 settle-requires c κs =
-    let start = c .before .before .before .before .before .before .before .before .before .before .before .before in
-    omega (arith, ap length (start .pre) ∙ length-replicate {A = ℕ} 2_048 0)
+    let start = c .before .before .before .before .before .before .before .before .before .before .before .before .before in
+    omega (arith, ap length (start .pre .0) ∙ length-replicate {A = ℕ} 2_048 0)
 
 same-length : tie.Need-same-length
 same-length c = search needs
@@ -47,12 +47,12 @@ returns-2 c =
     let walked = judged .before .before .before in
     let next = walked .before .before in
     let ended = next .before in
-    let cut = ended .before in
+    let cut = ended .before .before in
     let start = cut .before .before .before .before in
     let same = settled .settle .ensures .0 in
-    let kept = records-kept (start .args .file .now) _ (start .args .fields) (cut .body-of .ensures) (ended .line-end .ensures) (next .after-line .ensures) (walked .tally-records .ensures) ∙ ap (λ table. keptFrom table 0 (ordersRead (start .args .fields) (start .args .file .now))) (start .pre) in
-    records-within (start .args .fields) (start .args .count) (start .args .sum) (start .args .file .now) (omega arith)
-    (same ∙ judged .judge-tally .ensures ∙ records-judged (start .args .file .now) _ (start .args .fields) (cut .body-of .ensures) (ended .line-end .ensures) (next .after-line .ensures) (walked .tally-records .ensures) _ _) (settled .settle .ensures .1 ∙ (λ t. keptWhere (sym same t) (kept t)))
+    let kept = records-kept (start .args .file .now) _ (start .args .fields) (start .args .stated .terms) (cut .body-of .ensures) (ended .line-end .ensures) (next .after-line .ensures) (walked .tally-records .ensures) ∙ ap (λ table. keptFrom table 0 (ordersRead (start .args .fields) (start .args .file .now))) (start .pre .0) in
+    records-within (start .args .fields) (start .args .stated .count) (start .args .stated .sum) (start .args .stated .terms) (start .args .file .now) (omega arith)
+    (same ∙ judged .judge-tally .ensures ∙ records-judged (start .args .file .now) _ (start .args .fields) (start .args .stated .terms) (cut .body-of .ensures) (ended .line-end .ensures) (next .after-line .ensures) (walked .tally-records .ensures) _ _) (settled .settle .ensures .1 ∙ (λ t. keptWhere (sym same t) (kept t)))
 
 pub judge-records-spec : {M : Type 1} → statement M
 judge-records-spec =

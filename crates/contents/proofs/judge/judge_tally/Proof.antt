@@ -25,5 +25,9 @@ returns-5 : tie.Need-returns-5
 unfolding tallyQuestions
 returns-5 c = search (asking, not-true, not-false, eq-eqb) depth 24
 
+returns-6 : tie.Need-returns-6
+unfolding tallyQuestions
+returns-6 c = search (asking, not-true, not-false, eq-eqb) depth 24
+
 pub judge-tally-spec : {M : Type 1} → statement M
-judge-tally-spec = tie.close (tie.spec returns returns-2 returns-3 returns-4 returns-5)
+judge-tally-spec = tie.close (tie.spec returns returns-2 returns-3 returns-4 returns-5 returns-6)

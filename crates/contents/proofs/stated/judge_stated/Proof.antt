@@ -1,7 +1,7 @@
--- `contents::stated::judge_stated` is `statedOf`: the header is read, and the profile asked about before what it comes to.
-use Rattle.text.proofs.Branches.{told-no, told-yes}
+-- `contents::stated::judge_stated` is `statedOf`: what the header's line states.
+use mathlib.Core.Path.{_∙_, ap}
 use Rattle.epe.proofs.LineWalk.{header-line}
-use Rattle.contents.proofs.StatedLaws.{stated-unfit, stated-fit}
+use Rattle.contents.specs.Steps.{statedIn, statedOf}
 use borrow.Author.Needs.{needs}
 use Rattle.contents.proofs.stated.judge_stated.Statement.{statement}
 use Rattle.contents.proofs.stated.judge_stated.Tie as tie
@@ -18,39 +18,17 @@ slice-requires c κs = search needs
 read-stated-requires : tie.Need-read-stated-requires
 read-stated-requires c κs = search needs
 
-profile-fits-requires : tie.Need-profile-fits-requires
-profile-fits-requires c κs = search needs
-
 returns : tie.Need-returns
+unfolding statedOf
 returns c =
-    let asked = c .before in
-    let read = asked .before in
-    let lined = read .before in
+    let lined = c .before in
     let ended = lined .before in
     let cut = ended .before in
     let start = cut .before .before .args in
-    stated-unfit (start .profile) (start .file .now) _ (header-line (start .file .now) _ _ _ (cut .body-of .ensures) (ended .line-end .ensures) (lined .slice .ensures))
-    (read .read-stated .ensures) (told-no _ _ (asked .profile-fits .ensures) (c .if1 .taken))
-
-returns-2 : tie.Need-returns-2
-returns-2 c =
-    let asked = c .before in
-    let read = asked .before in
-    let lined = read .before in
-    let ended = lined .before in
-    let cut = ended .before in
-    let start = cut .before .before .args in
-    stated-fit (start .profile) (start .file .now) _ (header-line (start .file .now) _ _ _ (cut .body-of .ensures) (ended .line-end .ensures) (lined .slice .ensures))
-    (read .read-stated .ensures) (told-yes _ _ (asked .profile-fits .ensures) (c .if1 .left))
+    c .read-stated .ensures
+    ∙ ap (statedIn (start .profile))
+    (header-line (start .file .now) _ _ _ (cut .body-of .ensures) (ended .line-end .ensures) (lined .slice .ensures))
 
 pub judge-stated-spec : {M : Type 1} → statement M
 judge-stated-spec =
-    tie.close
-    (tie.spec
-    body-of-requires
-    line-end-requires
-    slice-requires
-    read-stated-requires
-    profile-fits-requires
-    returns
-    returns-2)
+    tie.close (tie.spec body-of-requires line-end-requires slice-requires read-stated-requires returns)

@@ -1,5 +1,7 @@
--- `contents::stated::read_stated` asks the questions, and reads what is stated.
-use Rattle.contents.specs.Steps.{statedBeside}
+-- `contents::stated::read_stated` asks the questions, and reads what is stated; the terms are those of the kind.
+use mathlib.Core.Path.{_∙_, ap}
+use Rattle.epe.specs.Profile.{termsFor}
+use Rattle.contents.specs.Steps.{statedIn}
 use borrow.Author.Needs.{needs}
 use Rattle.contents.proofs.stated.read_stated.Statement.{statement}
 use Rattle.contents.proofs.stated.read_stated.Tie as tie
@@ -10,11 +12,11 @@ slice-aggregate-cut c = search needs
 cut-requires : tie.Need-cut-requires
 cut-requires c κs = search needs
 
-slice-aggregate-judge-statement : tie.Need-slice-aggregate-judge-statement
-slice-aggregate-judge-statement c = search needs
+slice-aggregate-judge-header : tie.Need-slice-aggregate-judge-header
+slice-aggregate-judge-header c = search needs
 
-judge-statement-requires : tie.Need-judge-statement-requires
-judge-statement-requires c κs = search needs
+judge-header-requires : tie.Need-judge-header-requires
+judge-header-requires c κs = search needs
 
 slice-aggregate-stated-count : tie.Need-slice-aggregate-stated-count
 slice-aggregate-stated-count c = search needs
@@ -28,12 +30,29 @@ slice-aggregate-stated-sum c = search needs
 stated-sum-requires : tie.Need-stated-sum-requires
 stated-sum-requires c κs = search needs
 
+slice-aggregate-stated-kind : tie.Need-slice-aggregate-stated-kind
+slice-aggregate-stated-kind c = search needs
+
+stated-kind-requires : tie.Need-stated-kind-requires
+stated-kind-requires c κs = search needs
+
+terms-of-requires : tie.Need-terms-of-requires
+terms-of-requires c κs = search needs
+
 returns : tie.Need-returns
-unfolding statedBeside
+unfolding statedIn
 returns c =
-    let counted = c .before .before in
+    let kind = c .before in
+    let summed = kind .before .before in
+    let counted = summed .before .before in
     let asked = counted .before .before in
-    λ t. record { verdict = asked .judge-statement .ensures t; count = counted .stated-count .ensures t; sum = c .stated-sum .ensures t }
+    let start = asked .before .before .before .before .before .before in
+    λ t. record {
+      verdict = asked .judge-header .ensures t;
+      count = counted .stated-count .ensures t;
+      sum = summed .stated-sum .ensures t;
+      terms = (c .terms-of .ensures ∙ ap (termsFor (start .args .profile)) (kind .stated-kind .ensures)) t;
+    }
 
 pub read-stated-spec : {M : Type 1} → statement M
 read-stated-spec =
@@ -41,10 +60,13 @@ read-stated-spec =
     (tie.spec
     slice-aggregate-cut
     cut-requires
-    slice-aggregate-judge-statement
-    judge-statement-requires
+    slice-aggregate-judge-header
+    judge-header-requires
     slice-aggregate-stated-count
     stated-count-requires
     slice-aggregate-stated-sum
     stated-sum-requires
+    slice-aggregate-stated-kind
+    stated-kind-requires
+    terms-of-requires
     returns)

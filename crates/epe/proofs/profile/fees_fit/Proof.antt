@@ -2,7 +2,8 @@
 use mathlib.Core.Path.{_≡_}
 use lib.ListN.{length}
 use borrow.Author.Tests.{eq-eqb}
-use Rattle.epe.proofs.ProfileLaws.{fees-judged}
+use Rattle.money.specs.Money.{fee}
+use Rattle.epe.proofs.ProfileLaws.{five-judged}
 use borrow.Author.Needs.{needs}
 use Rattle.epe.proofs.profile.fees_fit.Statement.{statement}
 use Rattle.epe.proofs.profile.fees_fit.Tie as tie
@@ -48,7 +49,7 @@ returns c =
     let five : length (start .args .t1) ≡ 5 = search needs in
     rw (
       eq-eqb (length (start .args .t1)) 5 five,
-      fees-judged (start .args .t1) five,
+      five-judged _ (start .args .t1) (fee 0) five,
       first .is-order .ensures,
       second .is-order2 .ensures,
       third .is-order3 .ensures,

@@ -1,18 +1,18 @@
 -- `memory::class::class` goes by the byte of state.
-use Rattle.memory.specs.Rows.{rowOf}
+use mathlib.Core.Path.{_∙_, ap}
+use Rattle.memory.specs.Inner.Classes.{classOf}
 use borrow.Author.Needs.{needs}
 use Rattle.memory.proofs.class.class.Statement.{statement}
 use Rattle.memory.proofs.class.class.Tie as tie
 
-shared-slice-read-class-of : tie.Need-shared-slice-read-class-of
-shared-slice-read-class-of c = search needs
+code-requires : tie.Need-code-requires
+code-requires c κs = search needs
 
 class-of-requires : tie.Need-class-of-requires
 class-of-requires c κs = search needs
 
 returns : tie.Need-returns
-unfolding rowOf
-returns c = search needs
+returns c = c .class-of .ensures ∙ ap classOf (c .before .code .ensures .1)
 
 pub class-spec : {M : Type 1} → statement M
-class-spec = tie.close (tie.spec shared-slice-read-class-of class-of-requires returns)
+class-spec = tie.close (tie.spec code-requires class-of-requires returns)

@@ -23,7 +23,7 @@ returns c =
     let made = c .before .before .before .before in
     let start = made .before .before in
     let name = start .args .name in
-    head-entered name (start .args .fee .0) (start .args .n) (long start) (start .args .i) (start .args .memory .now) _ (start .pre .2)
+    head-entered name (start .args .terms) (start .args .n) (long start) (start .args .i) (start .args .memory .now) _ (start .pre .2)
     (start .pre .3) (start .pre .4) (rw (made .head-of .ensures) at (c .before .before .store-head .ensures))
 
 pub enter-head-spec : {M : Type 1} → statement M

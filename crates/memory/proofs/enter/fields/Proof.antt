@@ -35,24 +35,24 @@ slice-aggregate-store-four-2 c = search needs
 store-four-requires-2 : tie.Need-store-four-requires-2
 store-four-requires-2 c κs = simp length-set (omega arith)
 
-cast-head-3 : tie.Need-cast-head-3
-cast-head-3 c = search needs
+slice-aggregate-store-two : tie.Need-slice-aggregate-store-two
+slice-aggregate-store-two c = search needs
 
-array-write-head-4 : tie.Need-array-write-head-4
-array-write-head-4 c = search needs
+store-two-requires : tie.Need-store-two-requires
+store-two-requires c κs = search needs
 
-cast-head-4 : tie.Need-cast-head-4
-cast-head-4 c = search needs
+slice-aggregate-store-two-2 : tie.Need-slice-aggregate-store-two-2
+slice-aggregate-store-two-2 c = search needs
 
-add-head : tie.Need-add-head
-add-head c = search needs
-
-array-write-head-5 : tie.Need-array-write-head-5
-array-write-head-5 c = search needs
+store-two-requires-2 : tie.Need-store-two-requires-2
+store-two-requires-2 c κs = search needs
 
 returns : tie.Need-returns
 unfolding withNumber fieldsOf
-returns c = rw (c .before .store-four2 .ensures, c .before .before .before .before .before .store-four .ensures) refl
+returns c =
+    let orders = c .before .before .before in
+    let flat = orders .before .before .before in
+    rw (c .before .store-two2 .ensures, orders .before .store-two .ensures, flat .before .store-four2 .ensures, flat .before .before .before .before .before .store-four .ensures) refl
 
 pub fields-spec : {M : Type 1} → statement M
 fields-spec =
@@ -67,9 +67,8 @@ fields-spec =
     array-write-head-3
     slice-aggregate-store-four-2
     store-four-requires-2
-    cast-head-3
-    array-write-head-4
-    cast-head-4
-    add-head
-    array-write-head-5
+    slice-aggregate-store-two
+    store-two-requires
+    slice-aggregate-store-two-2
+    store-two-requires-2
     returns)

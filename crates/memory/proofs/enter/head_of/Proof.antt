@@ -35,26 +35,29 @@ add-j c = search needs
 loop-less : tie.Need-loop-less Inv-loop μ-loop
 loop-less c = search needs
 
+long : (c : tie.Start Inv-loop μ-loop) → length (c .args .name .ident .bytes) ≡ 17
+long c = search needs
+
 loop-again : tie.Need-loop-again Inv-loop μ-loop
 loop-again c =
     let turn = c .before in
-    let bytes = turn .before .before .before .args .name .ident .bytes in
+    let start = turn .before .before .before in
+    let bytes = start .args .name .ident .bytes in
     let head₀ = turn .before .fields .result in
-    let long : length bytes ≡ 17 = search needs in
     let whole : IsHead head₀ = search needs in (
       omega arith,
       ap (λ head. set head (turn .loop .j) (getD bytes (turn .loop .j) 0)) (turn .loop .inv .1)
-          ∙ one-more bytes head₀ (turn .loop .j) (omega arith) (omega arith),
+          ∙ one-more bytes head₀ (turn .loop .j) (omega (arith, long start)) (omega arith),
     )
 
 returns : tie.Need-returns Inv-loop μ-loop
 returns c =
     let called = c .before .before in
-    let bytes = called .before .before .args .name .ident .bytes in
-    let long : length bytes ≡ 17 = search needs in
+    let start = called .before .before in
+    let bytes = start .args .name .ident .bytes in
     let end : c .before .loop .j ≡ 17 = omega arith in
     rw end at (c .before .loop .inv .1)
-    ∙ ap (λ s. s ++ drop 17 (called .fields .result)) (take-all 17 bytes (omega arith))
+    ∙ ap (λ s. s ++ drop 17 (called .fields .result)) (take-all 17 bytes (omega (arith, long start)))
     ∙ ap (λ head. bytes ++ drop 17 head) (called .fields .ensures)
 
 pub head-of-spec : {M : Type 1} → statement M

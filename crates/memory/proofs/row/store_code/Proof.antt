@@ -1,14 +1,9 @@
--- `memory::row::store_code` stores one byte.
+-- `memory::row::store_code` stores a cell of its column.
+use mathlib.Core.Path.{refl}
 use Rattle.memory.specs.Inner.Stored.{withCodeAt}
 use borrow.Author.Needs.{needs}
 use Rattle.memory.proofs.row.store_code.Statement.{statement}
 use Rattle.memory.proofs.row.store_code.Tie as tie
-
-mul-at : tie.Need-mul-at
-mul-at c = search needs
-
-add-at : tie.Need-add-at
-add-at c = search needs
 
 add-memory : tie.Need-add-memory
 add-memory c = search needs
@@ -21,8 +16,7 @@ same-length c = search needs
 
 returns : tie.Need-returns
 unfolding withCodeAt
-returns c = search needs
+returns c = refl
 
 pub store-code-spec : {M : Type 1} → statement M
-store-code-spec =
-    tie.close (tie.spec mul-at add-at add-memory slice-write-memory same-length returns)
+store-code-spec = tie.close (tie.spec add-memory slice-write-memory same-length returns)

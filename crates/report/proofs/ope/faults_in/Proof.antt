@@ -1,8 +1,6 @@
 -- `report::ope::faults_in` counts the faulty orders row by row.
-use mathlib.Core.Path.{_∙_, ap}
 use native.Mathlib.Omega.{arith}
 use Prim.Native.Nat.{_-_}
-use Rattle.memory.specs.Rows.{rowOf}
 use Rattle.report.proofs.FaultWalk.{Finding, finding-begun, finding-on, finding-done}
 use borrow.Author.Needs.{needs}
 use Rattle.report.proofs.ope.faults_in.Statement.{statement}
@@ -17,14 +15,11 @@ abbrev μ-loop : tie.MeasureT-loop
 loop-holds : tie.Need-loop-holds Inv-loop μ-loop
 loop-holds c = finding-begun _ _ _ _
 
-add-row-bytes : tie.Need-add-row-bytes Inv-loop μ-loop
-add-row-bytes c = search needs
+add-state : tie.Need-add-state Inv-loop μ-loop
+add-state c = search needs
 
-row-bytes-requires : tie.Need-row-bytes-requires Inv-loop μ-loop
-row-bytes-requires c κs = search needs
-
-read-row-requires : tie.Need-read-row-requires Inv-loop μ-loop
-read-row-requires c κs = search needs
+state-requires : tie.Need-state-requires Inv-loop μ-loop
+state-requires c κs = search needs
 
 add-found-order : tie.Need-add-found-order Inv-loop μ-loop
 add-found-order c = search needs
@@ -41,10 +36,8 @@ loop-less c = search needs
 loop-again : tie.Need-loop-again Inv-loop μ-loop
 loop-again c =
     let read = c .before in
-    let bytes = read .before in
-    let turn = bytes .before in
-    finding-on (turn .before .loop .inv) (turn .loop-test .taken) (read .read-row .result) (read .read-row .ensures ∙ ap rowOf (bytes .row-bytes .ensures .0))
-    (omega arith) (c .found-order .ensures)
+    let turn = read .before in
+    finding-on (turn .before .loop .inv) (turn .loop-test .taken) (read .state .result) (read .state .ensures) (omega arith) (c .found-order .ensures)
 
 returns : tie.Need-returns Inv-loop μ-loop
 returns c =
@@ -61,9 +54,8 @@ faults-in-spec =
     Inv-loop
     μ-loop
     loop-holds
-    add-row-bytes
-    row-bytes-requires
-    read-row-requires
+    add-state
+    state-requires
     add-found-order
     found-order-requires
     add-done

@@ -1,8 +1,6 @@
 -- `report::ope::put_records` puts the records row by row.
-use mathlib.Core.Path.{_∙_, ap}
 use native.Mathlib.Omega.{arith}
 use Prim.Native.Nat.{_-_}
-use Rattle.memory.specs.Rows.{rowOf}
 use Rattle.report.proofs.OrderPut.{Recording, recording-begun, order-fits, recording-on, recording-done}
 use borrow.Author.Needs.{needs}
 use Rattle.report.proofs.ope.put_records.Statement.{statement}
@@ -17,14 +15,11 @@ abbrev μ-loop : tie.MeasureT-loop
 loop-holds : tie.Need-loop-holds Inv-loop μ-loop
 loop-holds c = recording-begun _ _ _ _ _ _ (c .before .before .before .pre .1)
 
-add-row-bytes : tie.Need-add-row-bytes Inv-loop μ-loop
-add-row-bytes c = search needs
+add-state : tie.Need-add-state Inv-loop μ-loop
+add-state c = search needs
 
-row-bytes-requires : tie.Need-row-bytes-requires Inv-loop μ-loop
-row-bytes-requires c κs = search needs
-
-read-row-requires : tie.Need-read-row-requires Inv-loop μ-loop
-read-row-requires c κs = search needs
+state-requires : tie.Need-state-requires Inv-loop μ-loop
+state-requires c κs = search needs
 
 add-put-order : tie.Need-add-put-order Inv-loop μ-loop
 add-put-order c = search needs
@@ -32,12 +27,11 @@ add-put-order c = search needs
 put-order-requires : tie.Need-put-order-requires Inv-loop μ-loop
 put-order-requires c κs =
     let read = c .before in
-    let bytes = read .before in
-    let turn = bytes .before in
+    let turn = read .before in
     let so-far = turn .before .loop .inv in
     let few = so-far .few in
     let room = turn .before .before .before .before .before .pre .0 .0 in
-    (order-fits so-far (turn .loop-test .taken) (read .read-row .result) (read .read-row .ensures ∙ ap rowOf (bytes .row-bytes .ensures .0)), omega arith)
+    (order-fits so-far (turn .loop-test .taken) (read .state .result) (read .state .ensures), omega arith)
 
 add-done : tie.Need-add-done Inv-loop μ-loop
 add-done c = search needs
@@ -49,10 +43,9 @@ loop-again : tie.Need-loop-again Inv-loop μ-loop
 loop-again c =
     let put = c .before .before in
     let read = put .before .before in
-    let bytes = read .before in
-    let turn = bytes .before in
-    recording-on (turn .before .loop .inv) (turn .loop-test .taken) (read .read-row .result)
-    (read .read-row .ensures ∙ ap rowOf (bytes .row-bytes .ensures .0)) (put .put-order .ensures)
+    let turn = read .before in
+    recording-on (turn .before .loop .inv) (turn .loop-test .taken) (read .state .result) (read .state .ensures)
+    (put .put-order .ensures)
 
 same-length : tie.Need-same-length Inv-loop μ-loop
 same-length c = search needs
@@ -67,9 +60,8 @@ put-records-spec =
     Inv-loop
     μ-loop
     loop-holds
-    add-row-bytes
-    row-bytes-requires
-    read-row-requires
+    add-state
+    state-requires
     add-put-order
     put-order-requires
     add-done

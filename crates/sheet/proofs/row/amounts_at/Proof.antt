@@ -4,7 +4,7 @@ use Rattle.money.specs.declared.Amount.{Amount}
 use Rattle.money.specs.declared.Money.the-variants.{K}
 use Rattle.memory.proofs.HeadFields.{accepted-within, returned-within}
 use Rattle.sheet.specs.Inner.Parts.{amountsFrom}
-use Rattle.sheet.proofs.Dividing.{amounts-needed, amounts-held, division-is}
+use Rattle.sheet.proofs.Dividing.{all-needed, all-held, division-is}
 use borrow.Author.Needs.{needs}
 use Rattle.sheet.proofs.row.amounts_at.Statement.{statement}
 use Rattle.sheet.proofs.row.amounts_at.Tie as tie
@@ -36,7 +36,7 @@ returns c =
     c .amounts-divided .ensures
     ∙ ap amountsFrom
     (division-is _ (start .args .i) (start .args .k) (start .pre .0) (head .head-bytes .ensures .0) K (ap (λ (a : Amount). a .0) (accepted .amounts-accepted .ensures))
-    (ap (λ (a : Amount). a .0) (returned .amounts-returned .ensures)) (amounts-needed _ (start .pre .1)) (amounts-held _ (start .pre .1)))
+    (ap (λ (a : Amount). a .0) (returned .amounts-returned .ensures)) (all-needed _ (start .pre .1) K) (all-held _ (start .pre .1) K))
 
 pub amounts-at-spec : {M : Type 1} → statement M
 amounts-at-spec =

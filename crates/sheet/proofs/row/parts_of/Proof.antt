@@ -19,16 +19,13 @@ no-parts-requires c κs = search needs
 loop-holds : tie.Need-loop-holds Inv-loop μ-loop
 loop-holds c = rw (c .no-parts .ensures) begun
 
-row-bytes-requires : tie.Need-row-bytes-requires Inv-loop μ-loop
-row-bytes-requires c κs = search needs
-
 slice-aggregate-with-order : tie.Need-slice-aggregate-with-order Inv-loop μ-loop
 slice-aggregate-with-order c = search needs
 
 with-order-requires : tie.Need-with-order-requires Inv-loop μ-loop
 with-order-requires c κs =
-    let turn = c .before .before .before in
-    (c .before .row-bytes .ensures .1, turn .before .before .holding-table .ensures, still-small (turn .loop .inv) (search needs) (search needs))
+    let turn = c .before .before in
+    (search needs, search needs, turn .before .before .holding-table .ensures, still-small (turn .loop .inv) (search needs) (search needs))
 
 add-i : tie.Need-add-i Inv-loop μ-loop
 add-i c = search needs
@@ -41,9 +38,8 @@ loop-less c = search needs
 
 loop-again : tie.Need-loop-again Inv-loop μ-loop
 loop-again c =
-    let row = c .before .before in
     let next = c .with-order .ensures in
-    one-more (row .before .before .loop .inv) (search needs) (row .row-bytes .ensures .0) (next .0) (next .1)
+    one-more (c .before .before .before .loop .inv) (search needs) (next .0) (next .1) (next .2)
 
 returns : tie.Need-returns Inv-loop μ-loop
 returns c = all-added (c .before .loop .inv) (search needs)
@@ -57,7 +53,6 @@ parts-of-spec =
     holding-table-requires
     no-parts-requires
     loop-holds
-    row-bytes-requires
     slice-aggregate-with-order
     with-order-requires
     add-i

@@ -10,10 +10,10 @@ use Rattle.sound.proofs.shipment.are_sound.Tie as tie
 use Rattle.model.specs.Shipment.{mostShipments, mostRows}
 
 abbrev Inv-loop : tie.InvT-loop
-Inv-loop memory n table i₀ k₀ left₀ i k left = (i + left ≤ mostShipments) × ((k ≤ mostRows) × (soundFrom memory i k left ≡ soundFrom memory 0 0 n))
+Inv-loop memory n i₀ k₀ left₀ i k left = (i + left ≤ mostShipments) × ((k ≤ mostRows) × (soundFrom memory i k left ≡ soundFrom memory 0 0 n))
 
 abbrev μ-loop : tie.MeasureT-loop
-μ-loop memory n table i₀ k₀ left₀ i k left = left
+μ-loop memory n i₀ k₀ left₀ i k left = left
 
 loop-holds : tie.Need-loop-holds Inv-loop μ-loop
 loop-holds c = (search needs, (search needs, refl))

@@ -5,9 +5,6 @@ use borrow.Author.Needs.{needs}
 use Rattle.sound.proofs.shipment.judge.Statement.{statement}
 use Rattle.sound.proofs.shipment.judge.Tie as tie
 
-is-fee-in-range-requires : tie.Need-is-fee-in-range-requires
-is-fee-in-range-requires c κs = search needs
-
 do-rows-fit-requires : tie.Need-do-rows-fit-requires
 do-rows-fit-requires c κs = search needs
 
@@ -33,20 +30,14 @@ returns-4 : tie.Need-returns-4
 unfolding judged
 returns-4 c = search branches depth 12
 
-returns-5 : tie.Need-returns-5
-unfolding judged
-returns-5 c = search branches depth 12
-
 pub judge-spec : {M : Type 1} → statement M
 judge-spec =
     tie.close
     (tie.spec
-    is-fee-in-range-requires
     do-rows-fit-requires
     does-go-ahead-fit-requires
     do-moneys-fit-requires
     returns
     returns-2
     returns-3
-    returns-4
-    returns-5)
+    returns-4)

@@ -1,4 +1,5 @@
 -- `store::load::count_at` reads the head of a body.
+use Rattle.memory.specs.Layout.{headSize}
 use Rattle.memory.proofs.Parts.{part-there}
 use borrow.Author.Needs.{needs}
 use Rattle.store.proofs.load.count_at.Statement.{statement}
@@ -22,7 +23,7 @@ orders-requires c κs = search needs
 returns : tie.Need-returns
 returns c =
     let start = c .before .before .before in
-    let head = part-there (start .args .stored .now) (start .args .at) 64 (start .pre) in
+    let head = part-there (start .args .stored .now) (start .args .at) headSize (start .pre) in
     rw (← head .0) (c .orders .ensures)
 
 pub count-at-spec : {M : Type 1} → statement M

@@ -1,7 +1,7 @@
 -- `store::load::unpack_body` puts the head of a body and then its orders.
 use native.Mathlib.Omega.{arith}
 use mathlib.Core.Path.{_∙_, ap}
-use Rattle.memory.specs.Layout.{headAt}
+use Rattle.memory.specs.Layout.{headSize, headAt}
 use Rattle.memory.specs.Heads.{orderCountIn}
 use Rattle.memory.proofs.Parts.{part-there}
 use Rattle.write.proofs.Putting.{put-length}
@@ -40,7 +40,7 @@ unpack-orders-requires c κs =
     let stored = c .before .before .before in
     let counted = stored .before .before in
     let start = counted .before .before .before .before in
-    let head = part-there (start .args .stored .now) (start .args .at) 64 (omega (arith, start .pre .2)) in
+    let head = part-there (start .args .stored .now) (start .args .at) headSize (omega (arith, start .pre .2)) in
     let is-count = counted .orders .ensures .0 ∙ ap orderCountIn (head .0) in
     let put = stored .put-head .ensures .1 in
     let as-long = put-length (headAt (start .args .i)) (headFrom (start .args .stored .now) (start .args .at)) (start .args .memory .now) (omega (arith, start .pre .0, start .pre .1, rw (head .0) at (head .1))) in
@@ -55,7 +55,7 @@ returns c =
     let stored = unpacked .before .before .before .before in
     let counted = stored .before .before in
     let start = counted .before .before .before .before in
-    let head = part-there (start .args .stored .now) (start .args .at) 64 (omega (arith, start .pre .2)) in
+    let head = part-there (start .args .stored .now) (start .args .at) headSize (omega (arith, start .pre .2)) in
     body-unpacked (start .args .stored .now) (start .args .i) (start .args .k) (start .args .at) (counted .orders .result) (head .0) (head .1)
     (counted .orders .ensures .0 ∙ ap orderCountIn (head .0)) (start .pre .0) (start .pre .1) (stored .put-head .ensures .1) (unpacked .unpack-orders .ensures)
 

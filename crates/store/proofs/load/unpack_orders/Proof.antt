@@ -1,8 +1,9 @@
--- `store::load::unpack_orders` puts order after order.
+-- `store::load::unpack_orders` stores order after order.
 use native.Mathlib.Omega.{arith}
 use Prim.Native.Nat.{_+_, _*_, _-_, _≤_}
 use mathlib.Core.Path.{_≡_}
 use borrow.Author.Needs.{needs}
+use Rattle.memory.specs.Layout.{rowSize}
 use Rattle.memory.proofs.Parts.{part-there}
 use Rattle.acts.specs.Inner.Place.{RowsStored}
 use Rattle.acts.proofs.RowsInTurn.{none-stored}
@@ -29,31 +30,25 @@ add-from c = search needs
 add-end : tie.Need-add-end Inv-loop μ-loop
 add-end c = search needs
 
-add-put-order : tie.Need-add-put-order Inv-loop μ-loop
-add-put-order c = search needs
+add-store-order : tie.Need-add-store-order Inv-loop μ-loop
+add-store-order c = search needs
 
-mul-put-order : tie.Need-mul-put-order Inv-loop μ-loop
-mul-put-order c = search needs
+sub-store-order : tie.Need-sub-store-order Inv-loop μ-loop
+sub-store-order c = search needs
 
-add-put-order-2 : tie.Need-add-put-order-2 Inv-loop μ-loop
-add-put-order-2 c = search needs
+part-store-order-start : tie.Need-part-store-order-start Inv-loop μ-loop
+part-store-order-start c = search needs
 
-sub-put-order : tie.Need-sub-put-order Inv-loop μ-loop
-sub-put-order c = search needs
+part-store-order-end : tie.Need-part-store-order-end Inv-loop μ-loop
+part-store-order-end c = search needs
 
-part-put-order-start : tie.Need-part-put-order-start Inv-loop μ-loop
-part-put-order-start c = search needs
-
-part-put-order-end : tie.Need-part-put-order-end Inv-loop μ-loop
-part-put-order-end c = search needs
-
-put-order-requires : tie.Need-put-order-requires Inv-loop μ-loop
-put-order-requires c κs =
+store-order-requires : tie.Need-store-order-requires Inv-loop μ-loop
+store-order-requires c κs =
     let turn = c .before .before in
     let loop = turn .before .loop in
     let start = turn .before .before .before .before in
-    let long = (part-there (start .args .stored .now) (start .args .at + 5 * loop .done) 5 (omega (arith, start .pre .2, turn .loop-test .taken))) .1 in
-    (omega (arith, start .pre .0, start .pre .1, loop .inv .0 .only .as-long, turn .loop-test .taken), omega (arith, long))
+    let long = (part-there (start .args .stored .now) (start .args .at + rowSize * loop .done) rowSize (omega (arith, start .pre .2, turn .loop-test .taken))) .1 in
+    (omega (arith, start .pre .0, turn .loop-test .taken), rw (loop .inv .0 .only .as-long) (start .pre .1), long)
 
 add-done : tie.Need-add-done Inv-loop μ-loop
 add-done c = search needs
@@ -63,13 +58,12 @@ loop-less c = search needs
 
 loop-again : tie.Need-loop-again Inv-loop μ-loop
 loop-again c =
-    let put = c .before .before in
-    let turn = put .before .before .before in
+    let stored = c .before .before in
+    let turn = stored .before .before .before in
     let loop = turn .before .loop in
     let start = turn .before .before .before .before in
-    let row = part-there (start .args .stored .now) (start .args .at + 5 * loop .done) 5 (omega (arith, start .pre .2, turn .loop-test .taken)) in (
-      one-more-unpacked (start .args .stored .now) (start .args .at) (loop .inv .0) (row .0) (row .1) (omega (arith, start .pre .0, turn .loop-test .taken))
-          (rw (loop .inv .0 .only .as-long) (start .pre .1)) (put .put-order .ensures .1),
+    let row = part-there (start .args .stored .now) (start .args .at + rowSize * loop .done) rowSize (omega (arith, start .pre .2, turn .loop-test .taken)) in (
+      one-more-unpacked (start .args .stored .now) (start .args .at) (omega (arith, start .pre .0, turn .loop-test .taken)) (loop .inv .0) (row .0) (stored .store-order .ensures),
       omega (arith, turn .loop-test .taken),
     )
 
@@ -92,13 +86,11 @@ unpack-orders-spec =
     mul-from
     add-from
     add-end
-    add-put-order
-    mul-put-order
-    add-put-order-2
-    sub-put-order
-    part-put-order-start
-    part-put-order-end
-    put-order-requires
+    add-store-order
+    sub-store-order
+    part-store-order-start
+    part-store-order-end
+    store-order-requires
     add-done
     loop-less
     loop-again
