@@ -7,8 +7,12 @@
  *
  * A shipment begins Waiting. When both transfers cover what it needs it is Paired, and its orders can be posted, paid,
  * marked undelivered or withdrawn; or it is Closed instead, without ever being Paired. It needs, in K, the sum of all its
- * amounts, and in O, the number of its orders times the fee F: faulty orders count like any other. What is not paid out
- * goes back to the insurer by a return.
+ * amounts, and in O, the sum of all its fees: faulty orders count like any other. What is not paid out goes back to the
+ * insurer by a return.
+ *
+ * Fees are each order's own: a flat part, and the order's amount times a rate over 10,000, in whole grosze. What that division
+ * leaves is kept beside the fee in the book and is no money. Both parts are set at intake, by the shipment's benefit kind, and
+ * stay: a later profile changes no fee that is in the book.
  *
  * An order begins Open, or Faulty where its record has a fault (see intake). Open becomes Posted or Withdrawn, and Posted
  * becomes Paid or Undelivered. What a return can give back of an order is said to wait: both its amount and its fee where it
@@ -71,9 +75,10 @@ struct buntingraft_reply {
 
 /* What an intake goes by. */
 struct buntingraft_profile {
-    uint64_t today;   /* a real date of 2000 to 2099, as the number yyyymmdd: 20201007 */
-    uint64_t fees[5]; /* the fee F of an order, by the shipment's benefit kind 0 to 4: each 0 to 999,999,999 */
-    uint64_t fields;  /* R, the number of fields in a record line: 19 to 32 */
+    uint64_t today;    /* a real date of 2000 to 2099, as the number yyyymmdd: 20201007 */
+    uint64_t flat[5];  /* the flat part of an order's fee, by the shipment's benefit kind 0 to 4: each 0 to 999,999,999 */
+    uint64_t fields;   /* R, the number of fields in a record line: 19 to 32 */
+    uint64_t rates[5]; /* the rate of an order's fee, in ten-thousandths of its amount, by the same kinds: each 0 to 10,000 */
 };
 
 /* The routes of a return. */
@@ -90,7 +95,7 @@ enum {
     BUNTINGRAFT_O = 1  /* fees */
 };
 
-/* How many bytes a book takes: 18,496. */
+/* How many bytes a book takes: 24,704. */
 uint64_t buntingraft_book_bytes(void);
 
 /*
@@ -112,7 +117,8 @@ struct buntingraft_reply buntingraft_make_empty(uint8_t *book, size_t book_lengt
  *
  * Done: the number of orders, and how many of them are faulty. At most 32 shipments and 2,048 orders fit in a book.
  *
- *   905  Is the profile within its ranges?
+ *   905  Are the profile's date, its five flat parts and its number of fields within their ranges?
+ *   907  Is each of the profile's five rates at most 10,000?
  *   900  Is the book's memory long enough, and a sound book?
  *     1  Is the file longer than 0 bytes?
  *    34  Is the byte mark EF BB BF there, and the rest well-formed UTF-8?
@@ -147,8 +153,12 @@ struct buntingraft_reply buntingraft_make_empty(uint8_t *book, size_t book_lengt
  *        zero?
  *   129  Are there as many record lines as header field 11 says?
  *   132  Do the amounts add up to header field 12?
+ *   906  Is every order's fee at most 999,999,999?
  *   903  Are there fewer than 32 shipments in the book?
  *   904  Do the orders fit, with those present, in 2,048 rows?
+ *
+ * All five flat parts and all five rates are judged, whichever the shipment's kind is. 906 goes by those of its kind, and asks
+ * faulty orders too.
  *
  * A single zero before the point is no leading zero: 0.50 reads as 50 grosze, 00.50 and 007.50 do not read.
  *
@@ -232,7 +242,7 @@ struct buntingraft_reply buntingraft_close(uint8_t *book, size_t book_length, co
  *    21  Is the order in the state that the call takes?
  */
 
-/* Posts an Open order: its fee is earned. Done: the fee F, 0. */
+/* Posts an Open order: its fee is earned. Done: its fee, 0. */
 struct buntingraft_reply buntingraft_post(uint8_t *book, size_t book_length, const uint8_t *id, size_t id_length,
                                           uint64_t order);
 
@@ -251,7 +261,8 @@ struct buntingraft_reply buntingraft_withdraw(uint8_t *book, size_t book_length,
 /*
  * Returns to the insurer all that there is of a money on a route, and nothing of it is there after.
  *
- * Done: the sum in grosze, and the number of orders that it is of (0 for ZWR).
+ * Done: the sum in grosze, and the number of orders that it is of (0 for ZWR). Orders with a fee of 0 go back with others of
+ * their route, and count; where all fees that wait there are 0, the answer is 23, and they wait on.
  *
  * By ZWR, after 10 and 13:
  *
@@ -354,7 +365,7 @@ struct buntingraft_reply buntingraft_write_ope(const uint8_t *book, size_t book_
  */
 struct buntingraft_reply buntingraft_write_money(uint64_t grosze, uint8_t *output, size_t output_length);
 
-/* The most bytes that a stored book takes: 12,546. */
+/* The most bytes that a stored book takes: 24,898. */
 uint64_t buntingraft_stored_bytes(void);
 
 /*
@@ -399,7 +410,7 @@ struct buntingraft_reply buntingraft_load(uint8_t *book, size_t book_length, con
  *
  * and a call takes its numbers and texts by place:
  *
- *     0  intake            today, five fees, fields; name, file
+ *     0  intake            today, five flat parts, fields, five rates; name, file
  *     1  transfer          amount; title
  *     2  go-ahead          id
  *     3  pair              id
@@ -410,8 +421,9 @@ struct buntingraft_reply buntingraft_load(uint8_t *book, size_t book_length, con
  *     8  withdraw          order; id
  *     9  return            route, money; id
  *
- * A number that an entry does not have is 0, and a text that it does not have is empty. An entry has no more than its call
- * takes, so that every journal of this edition means the same in one that takes more.
+ * A number that an entry does not have is 0, and a text that it does not have is empty: an intake of seven numbers, as it had
+ * before there were rates, has rates of 0. An entry has no more than its call takes, so that every journal of this edition
+ * means the same in one that takes more.
  *
  * `answers` is `places` replies, lent as the book is (the pointer not null, even where `places` is 0) and aligned as their
  * type asks. Its first are the replies of the journal's calls, refused ones included; those behind them stay as they are.

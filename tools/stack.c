@@ -21,6 +21,11 @@
 #define SHIPMENTS 32
 #define CALLS 4
 
+/* The fee of an order of 1.00: a flat part alone, and with a rate of 2.5 % beside it. */
+#define FLAT 350
+#define RATE 250
+#define FEE (FLAT + 100 * RATE / 10000)
+
 /* The OPE of 204 faulty orders, every tenth: a header of 55 bytes, and records of 9 and the digits of both numbers. */
 #define OPE_LENGTH (55 + 204 * 9 + (9 + 90 * 2 + 105 * 3) + (9 * 2 + 90 * 3 + 105 * 4))
 
@@ -35,7 +40,7 @@ static uint8_t *stack;
 static ucontext_t outside, inside;
 static volatile sig_atomic_t ran_out;
 
-static uint8_t book[18496];
+static uint8_t book[24704];
 static char name[32];
 static char file[256 * 1024];
 static size_t file_length;
@@ -46,11 +51,11 @@ static size_t journal_length;
 static struct buntingraft_reply answers[CALLS];
 static const uint64_t codes[10] = {308, 309, 310, 311, 312, 313, 314, 315, 316, 317};
 static uint8_t output[32677];
-static uint8_t stored[12546];
+static uint8_t stored[24898];
 static size_t stored_length;
 
 /* What the next call is given, and what it replied. */
-static uint64_t amount, order, route, money;
+static uint64_t flat = FLAT, rate, amount, order, route, money;
 static struct buntingraft_reply reply;
 
 static int calls_wrong = 0;
@@ -108,7 +113,8 @@ static void too_deep(void) {
 
 static void make_empty(void) { reply = buntingraft_make_empty(BOOK); }
 static void intake(void) {
-    const struct buntingraft_profile profile = {.today = 20201007, .fees = {350, 350, 350, 350, 350}, .fields = 19};
+    const struct buntingraft_profile profile = {
+        .today = 20201007, .flat = {flat, flat, flat, flat, flat}, .fields = 19, .rates = {rate, rate, rate, rate, rate}};
     reply = buntingraft_intake(BOOK, profile, (const uint8_t *)name, strlen(name), (const uint8_t *)file, file_length);
 }
 static void transfer_amounts(void) { reply = buntingraft_transfer(BOOK, BYTES(NAME "-K"), amount); }
@@ -178,23 +184,29 @@ static void put_entry(uint8_t call, const uint64_t *numbers, uint8_t n, const ch
     journal_length += behind;
 }
 
-/* Writes a journal of the intake of a full book, a transfer, a go-ahead and a pairing. */
-static void write_journal(void) {
-    const uint64_t profile[] = {20201007, 350, 350, 350, 350, 350, 19}, sum[] = {100 * ORDERS};
+/* Writes a journal of the intake of a full book, with so many of its numbers, a transfer, a go-ahead and a pairing. */
+static void write_journal(uint8_t numbers) {
+    const uint64_t profile[] = {20201007, FLAT, FLAT, FLAT, FLAT, FLAT, 19, RATE, RATE, RATE, RATE, RATE};
+    const uint64_t sum[] = {100 * ORDERS};
     write_file("ZS1", ORDERS);
     journal_length = 0;
     put_number(CALLS);
-    put_entry(0, profile, 7, name);
+    put_entry(0, profile, numbers, name);
     put_entry(1, sum, 1, NAME "-K");
     put_entry(2, NULL, 0, "ZS1");
     put_entry(3, NULL, 0, "ZS1");
 }
 
-/* A book of one shipment, of as many orders as there is room for, until it is paired. */
+/* A book of one shipment, with a rate and of as many orders as there is room for, until it is paired. */
 static void on_one_shipment(void) {
     write_file("ZS1", ORDERS);
     expect("book_bytes", BUNTINGRAFT_DONE, sizeof book, book_bytes);
     expect("make_empty", BUNTINGRAFT_DONE, 0, make_empty);
+    rate = 10001;
+    expect("intake, rates too high", BUNTINGRAFT_REFUSED, 907, intake);
+    flat = 999999999, rate = RATE;
+    expect("intake, fees too high", BUNTINGRAFT_REFUSED, 906, intake);
+    flat = FLAT;
     expect("intake of 2,048 orders", BUNTINGRAFT_DONE, ORDERS, intake);
     expect("intake of them again", BUNTINGRAFT_REFUSED, 101, intake);
     expect("write_rkf", BUNTINGRAFT_DONE, 64, write_rkf);
@@ -204,7 +216,7 @@ static void on_one_shipment(void) {
     expect("transfer of K", BUNTINGRAFT_DONE, 0, transfer_amounts);
     expect("go_ahead", BUNTINGRAFT_DONE, 0, go_ahead);
     expect("pair, short", BUNTINGRAFT_SHORT, 0, pair);
-    amount = 350 * ORDERS + 1;
+    amount = FEE * ORDERS + 1;
     expect("transfer of O", BUNTINGRAFT_DONE, 0, transfer_fees);
     expect("pair", BUNTINGRAFT_DONE, 0, pair);
 }
@@ -212,10 +224,10 @@ static void on_one_shipment(void) {
 /* The calls on the paired shipment's orders. */
 static void on_its_orders(void) {
     order = ORDERS;
-    expect("post", BUNTINGRAFT_DONE, 350, post);
+    expect("post", BUNTINGRAFT_DONE, FEE, post);
     expect("pay", BUNTINGRAFT_DONE, 100, pay);
     order = ORDERS - 1;
-    expect("post another", BUNTINGRAFT_DONE, 350, post);
+    expect("post another", BUNTINGRAFT_DONE, FEE, post);
     expect("mark_undelivered", BUNTINGRAFT_DONE, 0, mark_undelivered);
     order = 1;
     expect("withdraw", BUNTINGRAFT_DONE, 0, withdraw);
@@ -234,15 +246,15 @@ static void on_its_returns(void) {
     route = BUNTINGRAFT_ZWR, money = BUNTINGRAFT_O;
     expect("return by ZWR of O", BUNTINGRAFT_DONE, 1, return_money);
     route = BUNTINGRAFT_OPR;
-    expect("return by OPR of O", BUNTINGRAFT_DONE, 204 * 350, return_money);
+    expect("return by OPR of O", BUNTINGRAFT_DONE, 204 * FEE, return_money);
     route = BUNTINGRAFT_ZPR;
     expect("return by ZPR of O", BUNTINGRAFT_REFUSED, 22, return_money);
     route = BUNTINGRAFT_ZZR;
-    expect("return by ZZR of O", BUNTINGRAFT_DONE, 350, return_money);
+    expect("return by ZZR of O", BUNTINGRAFT_DONE, FEE, return_money);
     expect("sheet of one shipment", BUNTINGRAFT_DONE, 1, sheet);
 }
 
-/* A book of as many shipments as there is room for. */
+/* A book of as many shipments as there is room for, every second with a rate. */
 static void on_many_shipments(void) {
     char id[8], words[32];
     expect("make_empty again", BUNTINGRAFT_DONE, 0, make_empty);
@@ -250,6 +262,7 @@ static void on_many_shipments(void) {
         sprintf(id, "ZS%d", i);
         sprintf(words, "intake of shipment %d", i);
         write_file(id, ORDERS / SHIPMENTS);
+        rate = i % 2 == 0 ? RATE : 0;
         expect(words, BUNTINGRAFT_DONE, ORDERS / SHIPMENTS, intake);
     }
     write_file("ZS0", ORDERS);
@@ -269,13 +282,20 @@ static void on_a_stored_book(void) {
     expect("sheet of them again", BUNTINGRAFT_DONE, SHIPMENTS, sheet);
 }
 
-/* The replay of a journal, in a book that is not empty and in one that is. */
-static void on_a_journal(void) {
-    write_journal();
-    expect("replay in a full book", BUNTINGRAFT_NOT_REPLAYED, 3, replay);
+/* The replay of a journal whose intake has so many numbers, in an empty book: its fees are then these. */
+static void on_numbers(const char *words, uint8_t numbers, uint64_t fee) {
+    write_journal(numbers);
     expect("make_empty for a replay", BUNTINGRAFT_DONE, 0, make_empty);
-    expect("replay", BUNTINGRAFT_DONE, CALLS, replay);
-    calls_wrong += answers[0].first != ORDERS || answers[3].status != BUNTINGRAFT_SHORT || answers[3].second != 350 * ORDERS;
+    expect(words, BUNTINGRAFT_DONE, CALLS, replay);
+    calls_wrong += answers[0].first != ORDERS || answers[3].status != BUNTINGRAFT_SHORT || answers[3].second != fee * ORDERS;
+}
+
+/* The replay of a journal, in a book that is not empty, and in ones that are, with rates and without. */
+static void on_a_journal(void) {
+    write_journal(12);
+    expect("replay in a full book", BUNTINGRAFT_NOT_REPLAYED, 3, replay);
+    on_numbers("replay", 12, FEE);
+    on_numbers("replay without rates", 7, FLAT);
 }
 
 int main(void) {

@@ -89,7 +89,8 @@ static struct buntingraft_reply sheet(const uint8_t *book, size_t book_length) {
 
 /* Runs the shipment in a book that is made empty first. */
 static void run(uint8_t *book, size_t book_length, const uint8_t *file, size_t file_length) {
-    const struct buntingraft_profile profile = {.today = 20201007, .fees = {350, 350, 350, 350, 350}, .fields = 19};
+    const struct buntingraft_profile profile = {
+        .today = 20201007, .flat = {350, 350, 350, 350, 350}, .fields = 19, .rates = {0, 0, 0, 0, 0}};
     const uint64_t done = BUNTINGRAFT_DONE, is_short = BUNTINGRAFT_SHORT, refused = BUNTINGRAFT_REFUSED;
 
     expect("0. empty book", done, 0, 0, buntingraft_make_empty(BOOK));

@@ -1,8 +1,8 @@
 //! Books in the stages in which the calls are measured.
 
 use bench::calls::{Answer, Archive, Call, Rival};
-use bench::files::{drawn, is_faulty, order_file, Records, PROFILE};
-use buntingraft::BOOK_BYTES;
+use bench::files::{drawn, fees, is_faulty, order_file, Records};
+use buntingraft::{Profile, BOOK_BYTES};
 
 /// Books of the same shipments in different stages.
 pub struct Books {
@@ -37,19 +37,16 @@ fn with_century(title: &[u8]) -> Vec<u8> {
 }
 
 impl Books {
-    /// Books of so many shipments with so many orders each.
-    pub fn new(shipments: usize, orders: usize, records: Records) -> Books {
+    /// Books of so many shipments with so many orders each, taken in by this
+    /// profile.
+    pub fn new(shipments: usize, orders: usize, records: Records, profile: &Profile) -> Books {
         let ids: Vec<String> = (1..=shipments).map(|n| format!("SHIPMENT{n:02}")).collect();
         let mut waiting = vec![0; BOOK_BYTES];
         let mut title = Vec::new();
         for id in &ids {
             let file = order_file(id, orders, records);
-            make(
-                &mut waiting,
-                Call::Intake(&PROFILE, &file.name, &file.bytes),
-            );
-            let fees = PROFILE.fees[0] * orders as u64;
-            for (ending, need) in [(b"-O", fees), (b"-K", file.sum)] {
+            make(&mut waiting, Call::Intake(profile, &file.name, &file.bytes));
+            for (ending, need) in [(b"-O", fees(profile, orders)), (b"-K", file.sum)] {
                 title = [file.name.as_slice(), ending].concat();
                 make(&mut waiting, Call::Transfer(&title, need + 1_000));
             }

@@ -6,9 +6,24 @@ use buntingraft::Profile;
 /// The profile by which the files below are taken in.
 pub const PROFILE: Profile = Profile {
     today: 20_201_007,
-    fees: [350, 351, 352, 353, 354],
+    flat: [350, 351, 352, 353, 354],
     fields: 21,
+    rates: [0; 5],
 };
+
+/// The same with a rate.
+pub const RATED: Profile = Profile {
+    rates: [125, 126, 127, 128, 129],
+    ..PROFILE
+};
+
+/// What is said of lines and tables of a profile behind their names.
+pub fn with_a_rate(profile: &Profile) -> &'static str {
+    match profile.rates[0] {
+        0 => "",
+        _ => ", with a rate",
+    }
+}
 
 /// Which letters and faults the records of a file have.
 #[derive(Clone, Copy, PartialEq, Eq)]
@@ -64,12 +79,23 @@ pub fn is_faulty(order: usize) -> bool {
     order == 1 || drawn(order, 0, 5) == 0
 }
 
+/// The amount of an order.
+fn amount(order: usize) -> u64 {
+    5_000 + drawn(order, 3, 250_000) as u64
+}
+
+/// What the fees of so many orders come to, kind 0.
+pub fn fees(profile: &Profile, orders: usize) -> u64 {
+    let fee = |order| profile.flat[0] + amount(order) * profile.rates[0] / 10_000;
+    (1..=orders).map(fee).sum()
+}
+
 /// An order file of so many orders for this shipment, A, kind 0.
 pub fn order_file(id: &str, orders: usize, records: Records) -> OrderFile {
     let mut lines = String::new();
     let mut sum = 0;
     for order in 1..=orders {
-        let amount = 5_000 + drawn(order, 3, 250_000) as u64;
+        let amount = amount(order);
         sum += amount;
         let mut record = record(order, amount, records);
         let is_spoilt = match records {

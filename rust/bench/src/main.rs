@@ -8,6 +8,7 @@ mod on_stores;
 mod table;
 mod timing;
 
+use bench::files::{PROFILE, RATED};
 use timing::Clock;
 
 fn main() {
@@ -16,9 +17,11 @@ fn main() {
     println!("{}", on_files::intake(&clock));
     println!("{}", on_files::parts_of_intake(&clock));
     println!("{}", on_files::utf8(&clock));
-    for (shipments, orders) in [(1, 2_048), (32, 64)] {
-        let [whole, bare] = on_books::full_book(&clock, shipments, orders);
-        println!("{whole}\n{bare}");
+    for profile in [&PROFILE, &RATED] {
+        for (shipments, orders) in [(1, 2_048), (32, 64)] {
+            let [whole, bare] = on_books::full_book(&clock, shipments, orders, profile);
+            println!("{whole}\n{bare}");
+        }
     }
     println!("{}", on_books::rows(&clock));
     println!("{}", on_books::sheets(&clock));

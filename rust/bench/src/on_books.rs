@@ -5,9 +5,9 @@ use crate::books::{Books, Fate};
 use crate::table::{Table, FULL_BOOK, NONE};
 use crate::timing::{nanoseconds, Clock, Effort};
 use bench::calls::{agreed, Answer, Archive, Call, Rival, Twin};
-use bench::files::Records;
+use bench::files::{with_a_rate, Records, PROFILE, RATED};
 use bench::sheets::{agreed_sheet, archive_sheet, twin_sheet, Lent};
-use buntingraft::{Money, Route};
+use buntingraft::{Money, Profile, Route};
 use std::hint::black_box;
 
 const EFFORT: Effort = Effort {
@@ -56,10 +56,10 @@ fn race_soundness(clock: &Clock, book: &[u8]) -> [f64; 2] {
     clock.race(EFFORT, book, entries)
 }
 
-/// Each call on a full book of so many shipments with so many orders each: with
-/// the soundness pass, and without.
-pub fn full_book(clock: &Clock, shipments: usize, orders: usize) -> [Table; 2] {
-    let books = Books::new(shipments, orders, Records::Faulty);
+/// Each call on a full book of so many shipments with so many orders each, taken
+/// in by this profile: with the soundness pass, and without.
+pub fn full_book(clock: &Clock, shipments: usize, orders: usize, profile: &Profile) -> [Table; 2] {
+    let books = Books::new(shipments, orders, Records::Faulty, profile);
     let mixed = books.in_all_states();
     let (id, waiting) = (books.id.as_slice(), &books.waiting);
     let (short, long) = (&books.title, &books.long_title);
@@ -86,7 +86,8 @@ pub fn full_book(clock: &Clock, shipments: usize, orders: usize) -> [Table; 2] {
         ("ZZR, K", &mixed, Call::GiveBack(id, Route::Zzr, Money::K)),
         ("ZZR, O", &mixed, Call::GiveBack(id, Route::Zzr, Money::O)),
     ];
-    let title = format!("Calls on a full book, {shipments} × {orders} orders");
+    let rated = with_a_rate(profile);
+    let title = format!("Calls on a full book, {shipments} × {orders} orders{rated}");
     let mut whole = Table::new(&title, "twin", FULL_BOOK);
     let mut bare = Table::new(&(title + ", without the soundness pass"), "twin", NONE);
     whole.add_call("soundness alone", race_soundness(clock, &mixed));
@@ -102,8 +103,8 @@ pub fn full_book(clock: &Clock, shipments: usize, orders: usize) -> [Table; 2] {
 pub fn rows(clock: &Clock) -> Table {
     let mut table = Table::new("Cost against rows, in a book of one shipment", "twin", NONE);
     for orders in [1, 64, 512, 2_048] {
-        let books = Books::new(1, orders, Records::Faulty);
-        let all_open = Books::new(1, orders, Records::Polish).paired;
+        let books = Books::new(1, orders, Records::Faulty, &PROFILE);
+        let all_open = Books::new(1, orders, Records::Polish, &PROFILE).paired;
         let id = books.id.as_slice();
         let opr = Call::GiveBack(id, Route::Opr, Money::K);
         let mut add = |line: &str, times| table.add_call(&format!("{line}, rows: {orders}"), times);
@@ -118,11 +119,21 @@ pub fn rows(clock: &Clock) -> Table {
     table
 }
 
-/// The balance sheet of books of one shipment, and of a book of 32.
+/// The balance sheet of books of one shipment, and of a book of 32; of full ones
+/// with a rate too.
 pub fn sheets(clock: &Clock) -> Table {
     let mut table = Table::new("The balance sheet", "twin", NONE);
-    for (shipments, orders) in [(1, 1), (1, 64), (1, 512), (1, 2_048), (32, 64)] {
-        let mut book = Books::new(shipments, orders, Records::Faulty).in_all_states();
+    for (shipments, orders, profile) in [
+        (1, 1, &PROFILE),
+        (1, 64, &PROFILE),
+        (1, 512, &PROFILE),
+        (1, 2_048, &PROFILE),
+        (32, 64, &PROFILE),
+        (1, 2_048, &RATED),
+        (32, 64, &RATED),
+    ] {
+        let books = Books::new(shipments, orders, Records::Faulty, profile);
+        let mut book = books.in_all_states();
         assert_eq!(agreed_sheet(&book, &Lent::default()), Ok(shipments));
         let mut lent = Lent::default();
         let times = clock.take_turns(EFFORT, |entry| {
@@ -130,7 +141,8 @@ pub fn sheets(clock: &Clock) -> Table {
             let sheet = [archive_sheet, twin_sheet][entry];
             nanoseconds(|| sheet(black_box(&mut book), black_box(&mut lent)))
         });
-        table.add_call(&format!("{shipments} × {orders} orders"), times);
+        let rated = with_a_rate(profile);
+        table.add_call(&format!("{shipments} × {orders} orders{rated}"), times);
     }
     table
 }

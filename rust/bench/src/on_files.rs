@@ -4,15 +4,16 @@
 use crate::table::{Table, INTAKE, NONE};
 use crate::timing::{Clock, Effort};
 use bench::calls::{agreed, Answer, Archive, Call, Rival, Twin};
-use bench::files::{order_file, OrderFile, Records, PROFILE};
-use buntingraft::BOOK_BYTES;
+use bench::files::{order_file, with_a_rate, OrderFile, Records, PROFILE, RATED};
+use buntingraft::{Profile, BOOK_BYTES};
 
 const FULL: Effort = Effort {
     turns: 60,
     calls: 5,
 };
 
-/// Intake of a full file, and of one that is refused with 904.
+/// Intake of a full file, by a profile without a rate and with one, and of one
+/// that is refused with 904.
 pub fn intake(clock: &Clock) -> Table {
     let mut table = Table::new("Intake into an empty book", "twin", INTAKE);
     let long = Effort {
@@ -35,17 +36,20 @@ pub fn intake(clock: &Clock) -> Table {
             long,
         ),
     ];
-    for (line, orders, records, effort) in lines {
-        let file = order_file("ZS1", orders, records);
-        let times = race(clock, effort, &file.name, &file.bytes);
-        table.add_pass(line, file.bytes.len(), times);
+    for profile in [&PROFILE, &RATED] {
+        for (line, orders, records, effort) in lines {
+            let file = order_file("ZS1", orders, records);
+            let times = race(clock, effort, profile, &file.name, &file.bytes);
+            let line = format!("{line}{}", with_a_rate(profile));
+            table.add_pass(&line, file.bytes.len(), times);
+        }
     }
     table
 }
 
 /// The times of an intake into an empty book: the archive's and the twin's.
-fn race(clock: &Clock, effort: Effort, name: &[u8], file: &[u8]) -> [f64; 2] {
-    let call = Call::Intake(&PROFILE, name, file);
+fn race(clock: &Clock, effort: Effort, profile: &Profile, name: &[u8], file: &[u8]) -> [f64; 2] {
+    let call = Call::Intake(profile, name, file);
     agreed(&[0; BOOK_BYTES], &call);
     let entries = [(Archive::make as _, call), (Twin::<true>::make as _, call)];
     clock.race(effort, &[0; BOOK_BYTES], entries)
@@ -88,7 +92,7 @@ pub fn parts_of_intake(clock: &Clock) -> Table {
     let title = "Parts of an intake of 2,048 orders, Polish, every fifth faulty";
     let mut table = Table::new(title, "twin", NONE);
     let one = order_file("ZS1", 1, Records::Polish);
-    let header = race(clock, FULL, &one.name, &stating(&one, "0.00"));
+    let header = race(clock, FULL, &PROFILE, &one.name, &stating(&one, "0.00"));
     table.add_call("one order, refused with 131: name and header", header);
     let file = order_file("ZS1", 2_048, Records::Faulty);
     let other_sum = stating(&file, "0.01");
@@ -102,7 +106,7 @@ pub fn parts_of_intake(clock: &Clock) -> Table {
         ("accepted: and all orders taken in", &file.name, &file.bytes),
     ];
     for (line, name, bytes) in lines {
-        table.add_pass(line, bytes.len(), race(clock, FULL, name, bytes));
+        table.add_pass(line, bytes.len(), race(clock, FULL, &PROFILE, name, bytes));
     }
     table
 }

@@ -58,9 +58,13 @@ impl Journal {
 
     /// Enters an intake.
     pub fn intake(&mut self, profile: &Profile, name: &[u8], file: &[u8]) {
-        let [f0, f1, f2, f3, f4] = profile.fees;
-        let numbers = [profile.today, f0, f1, f2, f3, f4, profile.fields];
-        self.enter(0, &numbers, &[name, file]);
+        let numbers = [
+            &[profile.today][..],
+            &profile.flat,
+            &[profile.fields],
+            &profile.rates,
+        ];
+        self.enter(0, &numbers.concat(), &[name, file]);
     }
 
     /// Enters a transfer.
@@ -158,3 +162,26 @@ impl fmt::Display for NotReplayed {
 }
 
 impl Error for NotReplayed {}
+
+#[cfg(test)]
+mod tests {
+    use super::*;
+
+    #[test]
+    fn an_intake_has_twelve_numbers_the_rates_behind_the_others() {
+        let profile = Profile {
+            today: 1,
+            flat: [2, 3, 4, 5, 6],
+            fields: 7,
+            rates: [8, 9, 10, 11, 12],
+        };
+        let mut journal = Journal::new();
+        journal.intake(&profile, b"", b"");
+        let entry = &journal.bytes()[COUNT..];
+        assert_eq!(entry[..3], [0, 12, 2]);
+        for (place, number) in (1..=12).enumerate() {
+            assert_eq!(entry[3 + 8 * place..][..8], u64::to_le_bytes(number));
+        }
+        assert_eq!(entry.len(), 3 + 8 * (12 + 2));
+    }
+}

@@ -23,7 +23,7 @@
 //!     2|1|100.00|Nowak|Jan|Łódź|90-001|Łódź|Żwirki|7A||||ZASIŁEK|2020-10||||\r\n\
 //!     2|2|50.00||Łucja|Łódź|90-001|Łódź|Żwirki|7A||||ZASIŁEK|2020-10||||\r\n\
 //!     2|3|25.50|Lis|Ewa|Łódź|90-001|Łódź|Żwirki|7A||||ZASIŁEK|2020-10||||\r\n";
-//! let profile = Profile { today: 20_201_007, fees: [350; 5], fields: 19 };
+//! let profile = Profile { today: 20_201_007, flat: [350; 5], fields: 19, rates: [0; 5] };
 //!
 //! let mut book = Book::empty();
 //! let accepted = book.intake(&profile, name, file.as_bytes())?;
@@ -58,6 +58,33 @@
 //! # Ok::<(), buntingraft::Refusal>(())
 //! ```
 //!
+//! # Fees with a rate
+//!
+//! An order's fee is a flat part and, where the profile has a rate, so many
+//! ten-thousandths of its amount, in whole grosze. Each order earns and returns
+//! its own.
+//!
+//! ```
+//! use buntingraft::{Amount, Book, Fee, Pairing, Profile};
+//!
+//! let file = "\u{FEFF}1|ZUS|EPE|1.0|ZS1|ABC123|20201007120000|20201007|A|0|2|150.01\r\n\
+//!     2|1|100.01|Nowak|Jan|Łódź|90-001|Łódź|Żwirki|7A||||ZASIŁEK|2020-10||||\r\n\
+//!     2|2|50.00|Lis|Ewa|Łódź|90-001|Łódź|Żwirki|7A||||ZASIŁEK|2020-10||||\r\n";
+//! let profile = Profile { today: 20_201_007, flat: [350; 5], fields: 19, rates: [125; 5] };
+//!
+//! let mut book = Book::empty();
+//! book.intake(&profile, b"EPEZZS1-201007-A-0", file.as_bytes())?;
+//! book.transfer(b"EPEZZS1-201007-A-0-K", 15_001)?;
+//! let needed = Fee(350 + 125 + 350 + 62); // 1.25 % of 100.01 and of 50.00
+//! assert_eq!(book.pair(b"ZS1")?, Pairing::Short { k: Amount(0), o: needed });
+//!
+//! book.transfer(b"EPEZZS1-201007-A-0-O", needed.0)?;
+//! assert_eq!(book.pair(b"ZS1")?, Pairing::Paired);
+//! assert_eq!(book.post(b"ZS1", 1)?, Fee(475));
+//! assert_eq!(book.post(b"ZS1", 2)?, Fee(412));
+//! # Ok::<(), buntingraft::Refusal>(())
+//! ```
+//!
 //! # The reports on an order file
 //!
 //! The insurer takes the verdict on its file as a file: an RKF says whether it
@@ -69,7 +96,7 @@
 //! let file = "\u{FEFF}1|ZUS|EPE|1.0|ZS1|ABC123|20201007120000|20201007|A|0|2|150.00\r\n\
 //!     2|1|100.00|Nowak|Jan|Łódź|90-001|Łódź|Żwirki|7A||||ZASIŁEK|2020-10||||\r\n\
 //!     2|2|50.00||Łucja|Łódź|90-001|Łódź|Żwirki|7A||||ZASIŁEK|2020-10||||\r\n";
-//! let profile = Profile { today: 20_201_007, fees: [350; 5], fields: 19 };
+//! let profile = Profile { today: 20_201_007, flat: [350; 5], fields: 19, rates: [0; 5] };
 //!
 //! let mut book = Book::empty();
 //! let taken_in = book.intake(&profile, b"EPEZZS1-201007-A-0", file.as_bytes());
@@ -94,7 +121,7 @@
 //!
 //! let file = "\u{FEFF}1|ZUS|EPE|1.0|ZS1|ABC123|20201007120000|20201007|A|0|1|100.00\r\n\
 //!     2|1|100.00|Nowak|Jan|Łódź|90-001|Łódź|Żwirki|7A||||ZASIŁEK|2020-10||||\r\n";
-//! let profile = Profile { today: 20_201_007, fees: [350; 5], fields: 19 };
+//! let profile = Profile { today: 20_201_007, flat: [350; 5], fields: 19, rates: [0; 5] };
 //!
 //! let mut book = Book::empty();
 //! book.intake(&profile, b"EPEZZS1-201007-A-0", file.as_bytes())?;
@@ -149,7 +176,7 @@ pub use spelling::{write_money, write_money_into};
 pub use sys::{Profile, Reply, SheetRow, Totals};
 
 /// How many bytes a book takes.
-pub const BOOK_BYTES: usize = 18_496;
+pub const BOOK_BYTES: usize = 24_704;
 
 /// How many shipments a book has at most, so that a table of as many rows is
 /// enough for the sheet of any book.
@@ -169,4 +196,4 @@ pub const MOST_MONEY_BYTES: usize = 21;
 
 /// How many bytes a stored book has at most, so that an output of as many is
 /// enough for any.
-pub const MOST_STORED_BYTES: usize = 12_546;
+pub const MOST_STORED_BYTES: usize = 24_898;

@@ -134,7 +134,11 @@ const LONG_ENOUGH: Question = ask(30, "Is the output long enough?");
 const MAKE_EMPTY: &[Question] = &[ask(10, "Is the memory long enough?")];
 
 const INTAKE: &[Question] = &[
-    ask(905, "Is the profile within its ranges?"),
+    ask(
+        905,
+        "Are the profile's date, its five flat parts and its number of fields within their ranges?",
+    ),
+    ask(907, "Is each of the profile's five rates at most 10,000?"),
     ask(900, SOUND_WORDS),
     ask(1, "Is the file longer than 0 bytes?"),
     ask(
@@ -201,6 +205,7 @@ const INTAKE: &[Question] = &[
         "Are there as many record lines as header field 11 says?",
     ),
     ask(132, "Do the amounts add up to header field 12?"),
+    ask(906, "Is every order's fee at most 999,999,999?"),
     ask(903, "Are there fewer than 32 shipments in the book?"),
     ask(904, "Do the orders fit, with those present, in 2,048 rows?"),
 ];

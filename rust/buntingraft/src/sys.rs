@@ -24,17 +24,23 @@ pub(crate) const DONE: u64 = 0;
 pub(crate) const SHORT: u64 = 1;
 
 /// What an intake goes by. Any numbers can be passed; those out of range are
-/// refused with 905.
+/// refused with 905, rates with 907.
+///
+/// An order's fee is the flat part of its shipment's benefit kind and the whole
+/// grosze of its amount times the rate over 10,000.
 #[repr(C)]
 #[derive(Clone, Copy, Debug, PartialEq, Eq)]
 pub struct Profile {
     /// Today, a real date of 2000 to 2099, as the number yyyymmdd: 20201007.
     pub today: u64,
-    /// The fee F of an order in grosze, by the shipment's benefit kind 0 to 4:
-    /// each 0 to 999,999,999.
-    pub fees: [u64; 5],
+    /// The flat part of an order's fee in grosze, by the shipment's benefit kind
+    /// 0 to 4: each 0 to 999,999,999.
+    pub flat: [u64; 5],
     /// R, the number of fields in a record line: 19 to 32.
     pub fields: u64,
+    /// The rate of an order's fee in ten-thousandths of its amount, by the same
+    /// kinds: each 0 to 10,000.
+    pub rates: [u64; 5],
 }
 
 /// A row of the balance sheet: where a shipment's money is. In either money
@@ -264,6 +270,15 @@ mod tests {
         assert_eq!(offset_of!(Reply, status), 0);
         assert_eq!(offset_of!(Reply, first), 8);
         assert_eq!(offset_of!(Reply, second), 16);
+    }
+
+    #[test]
+    fn a_profile_is_laid_out_as_the_header_has_it() {
+        assert_eq!((size_of::<Profile>(), align_of::<Profile>()), (96, 8));
+        assert_eq!(offset_of!(Profile, today), 0);
+        assert_eq!(offset_of!(Profile, flat), 8);
+        assert_eq!(offset_of!(Profile, fields), 48);
+        assert_eq!(offset_of!(Profile, rates), 56);
     }
 
     #[test]

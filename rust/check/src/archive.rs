@@ -87,19 +87,24 @@ pub fn answer(bytes: &mut [u8], call: &Call) -> Result<Answer, Refusal> {
     }
 }
 
+/// The bindings' form of a profile.
+pub fn profile(profile: &reference::Profile) -> Profile {
+    Profile {
+        today: profile.today,
+        flat: profile.flat,
+        fields: profile.fields,
+        rates: profile.rates,
+    }
+}
+
 /// An intake.
 fn intake(
     book: &mut Book<&mut [u8]>,
-    profile: &reference::Profile,
+    stated: &reference::Profile,
     name: &[u8],
     file: &[u8],
 ) -> Result<Answer, Refusal> {
-    let profile = Profile {
-        today: profile.today,
-        fees: profile.fees,
-        fields: profile.fields,
-    };
-    let accepted = book.intake(&profile, name, file)?;
+    let accepted = book.intake(&profile(stated), name, file)?;
     Ok(Answer::Accepted {
         orders: accepted.orders,
         faulty: accepted.faulty,

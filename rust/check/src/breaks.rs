@@ -2,6 +2,7 @@
 //! in a good file of three orders.
 
 use crate::draft::Draft;
+use reference::{MOST_AMOUNT, MOST_RATE};
 
 /// Breaks a question in a file.
 pub type Break = fn(&mut Draft);
@@ -10,6 +11,7 @@ pub type Break = fn(&mut Draft);
 /// 903, 904) are not among them.
 pub const BREAKS: &[(u64, Break)] = &[
     (905, |d| d.profile.fields = 18),
+    (907, |d| d.profile.rates[4] = MOST_RATE + 1),
     (1, |d| d.emptied = true),
     (34, |d| d.mark.truncate(2)),
     (3, |d| d.tail = b"-0".to_vec()),
@@ -41,4 +43,5 @@ pub const BREAKS: &[(u64, Break)] = &[
     (902, |d| d.records[0][2] = "0.00".into()),
     (129, |d| d.header[10] = "999999".into()),
     (132, |d| d.header[11] = "99999999999.99".into()),
+    (906, |d| *d = d.clone().with_tariff(MOST_AMOUNT, MOST_RATE)),
 ];

@@ -8,7 +8,7 @@ use crate::report::Report;
 use crate::reported::Reported;
 use crate::sheet::Taken;
 use buntingraft::{Call, NotReplayed};
-use reference::{Answer, Book, Money, Route, State};
+use reference::{Answer, Book, Fee, Money, Route, State, Tariff, MOST_AMOUNT};
 use std::collections::BTreeMap;
 use std::fmt;
 
@@ -31,6 +31,20 @@ impl Outcome {
     }
 }
 
+/// Something that a fee may be, by its shipment's tariff.
+type OfFees = fn(Tariff, Fee) -> bool;
+
+/// What the fee of an order taken in may be; one fee may be several.
+const FEES: [(&str, OfFees); 5] = [
+    ("Flat", |tariff, _| tariff.rate == 0),
+    ("Whole", |tariff, fee| tariff.rate > 0 && fee.remainder == 0),
+    ("Rest", |_, fee| fee.remainder > 0),
+    ("Zero", |tariff, fee| tariff.rate > 0 && fee.fee == 0),
+    ("Most", |tariff, fee| {
+        tariff.rate > 0 && fee.fee == MOST_AMOUNT
+    }),
+];
+
 /// Counts of what was compared.
 #[derive(Default)]
 pub struct Coverage {
@@ -38,6 +52,7 @@ pub struct Coverage {
     long_titles: BTreeMap<Outcome, u64>,
     returns: BTreeMap<(u64, u64), u64>,
     faults: [u64; 11],
+    fees: [u64; FEES.len()],
     reported: Reported,
     replayed: u64,
     not_replayed: [u64; 3],
@@ -52,8 +67,8 @@ pub struct Coverage {
 
 impl Coverage {
     /// Counts a call with its answer, and apart a transfer whose title has a
-    /// long date; of an accepted intake the orders' faults too, as they stand
-    /// in the book after it.
+    /// long date; of an accepted intake the orders' faults and fees too, as they
+    /// stand in the book after it.
     pub fn note(&mut self, call: &reference::Call, answer: &Answer, after: Option<&Book>) {
         self.note_answer(kind(call), answer);
         match (call, answer) {
@@ -70,8 +85,19 @@ impl Coverage {
                         self.faults[usize::from(fault)] += 1;
                     }
                 }
+                if let Some(shipment) = newest {
+                    let fees = shipment.rows.iter().map(|row| row.fee);
+                    fees.for_each(|fee| self.note_fee(shipment.tariff, fee));
+                }
             }
             _ => {}
+        }
+    }
+
+    /// Counts a fee of an order that was taken in.
+    fn note_fee(&mut self, tariff: Tariff, fee: Fee) {
+        for (count, (_, is_so)) in self.fees.iter_mut().zip(FEES) {
+            *count += u64::from(is_so(tariff, fee));
         }
     }
 
@@ -184,6 +210,9 @@ impl Coverage {
         for fault in (1..=10).filter(|fault| self.faults[*fault] == 0) {
             missing.push(format!("fault {fault}"));
         }
+        for ((what, _), _) in FEES.iter().zip(self.fees).filter(|(_, count)| *count == 0) {
+            missing.push(format!("fee {what}"));
+        }
         missing.extend(self.reported.missing());
         for reason in (1..=3).filter(|reason| self.not_replayed[reason - 1] == 0) {
             missing.push(format!("journal not replayed for {reason}"));
@@ -205,6 +234,8 @@ impl Coverage {
         let returns = returns.map(|way| format!("{}: {}", way_name(way), done(&way)));
         let faults = self.faults.iter().enumerate().skip(1);
         let faults = faults.map(|(fault, count)| format!("{fault}: {count}"));
+        let fees = FEES.iter().zip(self.fees);
+        let fees = fees.map(|((what, _), count)| format!("{what}: {count}"));
         let [subjects, faults_reported] = self.reported.cells();
         let reasons = self.not_replayed.iter().zip(1..);
         let reasons = reasons.map(|(count, reason)| format!("not {reason}: {count}"));
@@ -214,6 +245,7 @@ impl Coverage {
             ("all but intake", refused.collect()),
             ("returns done", returns.collect()),
             ("faults", faults.collect()),
+            ("fees", fees.collect()),
             ("reports written", subjects),
             ("faults in an OPE", faults_reported),
             ("journals", replayed.chain(reasons).collect()),

@@ -6,6 +6,9 @@ use reference::{Call, Money, Profile, Route};
 /// The bytes that say how many entries a journal has.
 const COUNT: usize = 8;
 
+/// How many numbers of an intake stand before its rates.
+const BEFORE_RATES: usize = 7;
+
 /// An entry before it is bytes: its call, its numbers and its texts.
 #[derive(Clone)]
 pub struct Entry {
@@ -28,9 +31,9 @@ impl Entry {
                 name,
                 file,
             } => {
-                let [a, b, c, d, e] = profile.fees;
-                let numbers = [profile.today, a, b, c, d, e, profile.fields];
-                entry(0, &numbers, &[name, file])
+                let (flat, rates) = (&profile.flat[..], &profile.rates[..]);
+                let numbers = [&[profile.today], flat, &[profile.fields], rates];
+                entry(0, &numbers.concat(), &[name, file])
             }
             Call::Transfer { title, amount } => entry(1, &[*amount], &[title]),
             Call::GoAhead { identifier } => entry(2, &[], &[identifier]),
@@ -49,14 +52,29 @@ impl Entry {
     }
 
     /// The same call said otherwise: what is 0 or empty at the end is now and
-    /// then left out.
+    /// then left out, all rates of an intake together more often.
     pub fn varied(mut self, numbers: &mut Numbers) -> Entry {
+        if self.is_without_rates() && numbers.one_in(3) {
+            self.numbers.truncate(BEFORE_RATES);
+        }
         while self.numbers.last() == Some(&0) && numbers.one_in(2) {
             self.numbers.pop();
         }
         while self.texts.last().is_some_and(Vec::is_empty) && numbers.one_in(2) {
             self.texts.pop();
         }
+        self
+    }
+
+    /// Is it an intake whose rates are all 0?
+    fn is_without_rates(&self) -> bool {
+        let rates = self.numbers.iter().skip(BEFORE_RATES);
+        self.call == 0 && rates.copied().all(|rate| rate == 0)
+    }
+
+    /// The entry with so many numbers: the first of its own, or zeros behind them.
+    pub fn with_numbers(mut self, count: usize) -> Entry {
+        self.numbers.resize(count, 0);
         self
     }
 
@@ -116,7 +134,7 @@ fn number(bytes: &mut &[u8]) -> Option<u64> {
 /// How many numbers and texts a call takes.
 fn most(call: u8) -> (usize, usize) {
     match call {
-        0 => (7, 2),
+        0 => (12, 2),
         2..=4 => (0, 1),
         9 => (2, 1),
         _ => (1, 1),
@@ -141,14 +159,16 @@ fn call(bytes: &mut &[u8]) -> Option<Call> {
         return None;
     }
     let number = |place: usize| numbers.get(place).copied().unwrap_or(0);
+    let five = |from: usize| std::array::from_fn(|kind| number(from + kind));
     let text = |place: usize| texts.get(place).map_or(Vec::new(), |text| text.to_vec());
     let (identifier, order) = (text(0), number(0));
     Some(match call {
         0 => Call::Intake {
             profile: Profile {
                 today: number(0),
-                fees: [number(1), number(2), number(3), number(4), number(5)],
+                flat: five(1),
                 fields: number(6),
+                rates: five(BEFORE_RATES),
             },
             name: text(0),
             file: text(1),

@@ -1,31 +1,75 @@
 //! The book that lent bytes hold, read by docs/LAYOUT.md alone.
 
-use reference::{Book, Name, Row, Shipment, Stage, State, Waits};
+use reference::{Book, Fee, Name, Row, Shipment, Stage, State, Tariff, Waits};
 use std::ops::Range;
 
 /// How many bytes a book takes, by docs/LAYOUT.md.
-pub const LENGTH: usize = 18_496;
+pub const LENGTH: usize = 24_704;
 
 /// Where the heads begin.
 pub const HEADS: usize = 64;
 
 /// The length of a head.
-pub const HEAD: usize = 64;
+pub const HEAD: usize = 66;
 
-/// Where the rows begin.
-pub const ROWS: usize = 2_112;
+/// Where the columns of the rows begin.
+pub const ROWS: usize = 2_176;
 
-/// The length of a row.
-pub const ROW: usize = 8;
+/// A column of the rows: where it begins, and how many of its bytes an order
+/// has.
+#[derive(Clone, Copy)]
+pub struct Column {
+    from: usize,
+    width: usize,
+}
 
-/// The place of the amount in a row.
-pub const AMOUNT: Range<usize> = 0..4;
+impl Column {
+    /// The place of an order's bytes; the orders of the whole book are counted
+    /// from 0.
+    pub fn of(self, order: usize) -> Range<usize> {
+        let from = self.from + self.width * order;
+        from..from + self.width
+    }
+}
+
+/// The columns of the rows whose numbers take more than a byte: amounts, fees
+/// and remainders.
+pub const ROW_NUMBERS: [Column; 3] = [AMOUNTS, FEES, REMAINDERS];
+
+const AMOUNTS: Column = Column {
+    from: ROWS,
+    width: 4,
+};
+const FEES: Column = Column {
+    from: 10_368,
+    width: 4,
+};
+const REMAINDERS: Column = Column {
+    from: 18_560,
+    width: 2,
+};
+const STATES: Column = Column {
+    from: 22_656,
+    width: 1,
+};
+
+/// The places of an order's bytes in all four columns.
+pub fn row_places(order: usize) -> impl Iterator<Item = usize> {
+    [AMOUNTS, FEES, REMAINDERS, STATES]
+        .into_iter()
+        .flat_map(move |column| column.of(order))
+}
 
 /// The place of the identifier in a head, its length behind it.
 pub const IDENTIFIER: Range<usize> = 0..18;
 
+/// The place of the flat part in a head.
+pub const FLAT: Range<usize> = 24..28;
+
+/// The place of the rate in a head.
+pub const RATE: Range<usize> = 64..66;
+
 const DATE: Range<usize> = 18..22;
-const FEE: Range<usize> = 24..28;
 const ORDERS: Range<usize> = 30..32;
 const ACCEPTED_K: Range<usize> = 32..40;
 const ACCEPTED_O: Range<usize> = 40..48;
@@ -33,11 +77,12 @@ const RETURNED_K: Range<usize> = 48..56;
 const RETURNED_O: Range<usize> = 56..64;
 
 /// The places of all numbers of a head that take more than a byte.
-pub const HEAD_NUMBERS: [Range<usize>; 7] = [
-    DATE, FEE, ORDERS, ACCEPTED_K, ACCEPTED_O, RETURNED_K, RETURNED_O,
+pub const HEAD_NUMBERS: [Range<usize>; 8] = [
+    DATE, FLAT, ORDERS, ACCEPTED_K, ACCEPTED_O, RETURNED_K, RETURNED_O, RATE,
 ];
 
 const MOST_SHIPMENTS: usize = 32;
+const MOST_ROWS: usize = 2_048;
 
 /// The book in these bytes, if they hold a sound one: every byte that is used
 /// has a meaning, and what it means is sound.
@@ -51,7 +96,7 @@ fn read(bytes: &[u8]) -> Option<Book> {
     if bytes.len() < LENGTH || usize::from(bytes[0]) > MOST_SHIPMENTS {
         return None;
     }
-    let mut rows = bytes[ROWS..LENGTH].chunks_exact(ROW);
+    let mut rows = (0..MOST_ROWS).map(|order| read_row(bytes, order));
     let heads = bytes[HEADS..ROWS].chunks_exact(HEAD);
     let mut shipments = Vec::new();
     for head in heads.take(usize::from(bytes[0])) {
@@ -69,10 +114,10 @@ fn number(bytes: &[u8]) -> u64 {
 }
 
 /// The shipment of a head, with its orders from the rows that are left.
-fn read_shipment<'a>(head: &[u8], rows: &mut impl Iterator<Item = &'a [u8]>) -> Option<Shipment> {
+fn read_shipment(head: &[u8], rows: &mut impl Iterator<Item = Option<Row>>) -> Option<Shipment> {
     let mut orders = Vec::new();
     for _ in 0..number(&head[ORDERS]) {
-        orders.push(read_row(rows.next()?)?);
+        orders.push(rows.next()??);
     }
     Some(Shipment {
         name: Name {
@@ -81,7 +126,10 @@ fn read_shipment<'a>(head: &[u8], rows: &mut impl Iterator<Item = &'a [u8]>) -> 
             payment: head[22],
             kind: head[23],
         },
-        fee: number(&head[FEE]),
+        tariff: Tariff {
+            flat: number(&head[FLAT]),
+            rate: number(&head[RATE]),
+        },
         stage: match head[28] {
             0 => Stage::Waiting,
             1 => Stage::Paired,
@@ -110,11 +158,16 @@ fn read_identifier(bytes: &[u8]) -> Option<Vec<u8>> {
     padded.then(|| identifier.to_vec())
 }
 
-/// The order of a row.
-fn read_row(row: &[u8]) -> Option<Row> {
+/// The row of an order of the whole book.
+fn read_row(bytes: &[u8], order: usize) -> Option<Row> {
+    let in_column = |column: Column| &bytes[column.of(order)];
     Some(Row {
-        amount: number(&row[AMOUNT]),
-        state: read_state(row[4])?,
+        amount: number(in_column(AMOUNTS)),
+        fee: Fee {
+            fee: number(in_column(FEES)),
+            remainder: number(in_column(REMAINDERS)),
+        },
+        state: read_state(in_column(STATES)[0])?,
     })
 }
 

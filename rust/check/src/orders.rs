@@ -6,12 +6,22 @@ use crate::draft::Draft;
 use crate::numbers::Numbers;
 use reference::Call;
 
-/// Fees by benefit kind.
-const FEES: [[u64; 5]; 4] = [
-    [350; 5],
-    [350, 0, 1, 999_999_999, 7],
-    [0; 5],
-    [999_999_999; 5],
+/// Flat parts and rates by benefit kind: without a rate; with one, with which
+/// some fees are 0 where the flat part is; and such that the largest amount's fee
+/// is the largest, or a grosz more.
+const TARIFFS: [([u64; 5], [u64; 5]); 12] = [
+    ([350; 5], [0; 5]),
+    ([350; 5], [0; 5]),
+    ([350, 0, 1, 999_999_999, 7], [0; 5]),
+    ([0; 5], [0; 5]),
+    ([999_999_999; 5], [0; 5]),
+    ([350; 5], [125; 5]),
+    ([350, 0, 1, 2, 7], [9_999, 10_000, 1, 3_333, 5_000]),
+    ([0; 5], [1; 5]),
+    ([0; 5], [1, 2, 9_999, 10_000, 4]),
+    ([0; 5], [1; 5]),
+    ([999_900_000; 5], [1; 5]),
+    ([999_900_001; 5], [1; 5]),
 ];
 
 const AMOUNTS: [u64; 6] = [1, 99, 2_550, 5_000, 10_000, 999_999_999];
@@ -38,7 +48,7 @@ fn some_text(numbers: &mut Numbers) -> String {
 }
 
 /// A good file: 1 to `most` orders, a third of them with a field that may be a
-/// fault.
+/// fault. One tariff in twelve has a fee above the cap, if the amounts have it.
 pub fn good_draft(identifier: &str, most: usize, numbers: &mut Numbers) -> Draft {
     let count = 1 + numbers.below(most);
     let amounts: Vec<u64> = (0..count).map(|_| some_amount(numbers)).collect();
@@ -51,7 +61,7 @@ pub fn good_draft(identifier: &str, most: usize, numbers: &mut Numbers) -> Draft
         .with_payment(numbers.pick(&["A", "B"]))
         .with_kind(numbers.pick(&["0", "1", "2", "3", "4"]))
         .with_fields(numbers.pick(&[19, 19, 21, 32]));
-    draft.profile.fees = numbers.pick(&FEES);
+    (draft.profile.flat, draft.profile.rates) = numbers.pick(&TARIFFS);
     draft.end = numbers.pick(&["", "\r\n"]);
     for order in 1..=count {
         if numbers.one_in(3) {

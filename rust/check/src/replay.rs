@@ -1,12 +1,13 @@
 //! A journal replayed, held to the same calls made one by one.
 
+use crate::archive;
 use crate::coverage::Coverage;
 use crate::journal::{has_place, read, recounted, written, Entry};
 use crate::layout::{sound_book, LENGTH};
 use crate::lent::Lent;
 use crate::numbers::Numbers;
 use crate::twin::Twin;
-use buntingraft::{Journal, Money, NotReplayed, Profile, Reply, Route};
+use buntingraft::{Journal, Money, NotReplayed, Reply, Route};
 use reference::{Answer, Call};
 use std::ops::Range;
 
@@ -234,14 +235,7 @@ fn enter(journal: &mut Journal, call: &Call) {
             profile,
             name,
             file,
-        } => {
-            let profile = Profile {
-                today: profile.today,
-                fees: profile.fees,
-                fields: profile.fields,
-            };
-            journal.intake(&profile, name, file);
-        }
+        } => journal.intake(&archive::profile(profile), name, file),
         Call::Transfer { title, amount } => journal.transfer(title, *amount),
         Call::GoAhead { identifier } => journal.go_ahead(identifier),
         Call::Pair { identifier } => journal.pair(identifier),

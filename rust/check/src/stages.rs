@@ -14,22 +14,25 @@ use reference::{Call, MOST_ROWS, MOST_SHIPMENTS};
 pub const LONGEST: &str = "PDabcdefgh0123456";
 
 /// Enters the shipments: WA1, GA1 and OK1 Waiting, PA1, PB1, PC1, [`LONGEST`]
-/// and PZ1 Paired, CL1 and CN1 Closed.
+/// and PZ1 Paired; with a rate RW1 Waiting, RA1 and RB1 Paired and RC1 Closed; CL1
+/// and CN1 Closed.
 pub fn enter_all(run: &mut Run) {
     waiting(run);
     paired(run);
     returned_in_part(run);
+    rated(run);
     closed(run);
 }
 
 /// Fills the book: Waiting shipments of one order each, and a Paired one with
-/// all the rows that are left.
+/// all the rows that are left, and a rate.
 pub fn fill(run: &mut Run) {
     for place in run.book().shipments.len()..MOST_SHIPMENTS - 1 {
         done(run, Draft::new(&format!("FI{place}"), &[1]).intake());
     }
     let left = MOST_ROWS - run.book().row_count();
-    funded(run, &Draft::new("FU1", &vec![5; left]), 0);
+    let rest = Draft::new("FU1", &vec![5; left]).with_tariff(7, 2_500);
+    funded(run, &rest, 0);
     done(run, pair("FU1"));
 }
 
@@ -109,7 +112,7 @@ fn returned_in_part(run: &mut Run) {
     ];
     for (identifier, kind, moneys) in returned {
         let mut draft = Draft::new(identifier, &[100, 20, 3]).with_field(2, 15, "");
-        draft.profile.fees[3] = 0;
+        draft.profile.flat[3] = 0;
         funded(run, &draft.with_kind(kind), 0);
         done(run, go_ahead(identifier));
         done(run, pair(identifier));
@@ -119,6 +122,51 @@ fn returned_in_part(run: &mut Run) {
             done(run, give_back(identifier, Zzr, *money));
         }
     }
+}
+
+/// With a rate: Waiting and a grosz short, Paired with orders in most states, and
+/// some fees of 0 among those that wait or went back, and Closed.
+fn rated(run: &mut Run) {
+    let short = Draft::new("RW1", &[5_000, 10, 2_499]).with_field(2, 4, "");
+    funded(run, &short.with_tariff(350, 125), -1);
+    done(run, go_ahead("RW1"));
+    let amounts = [
+        9_999,
+        10_000,
+        20_001,
+        123_456,
+        999_999_999,
+        1,
+        30_000,
+        5,
+        40_000,
+    ];
+    let many = Draft::new("RA1", &amounts)
+        .with_fault(8, 3)
+        .with_fault(9, 8);
+    funded(run, &many.with_tariff(0, 1), 3);
+    done(run, go_ahead("RA1"));
+    done(run, pair("RA1"));
+    for order in 3..=5 {
+        done(run, post("RA1", order));
+    }
+    done(run, pay("RA1", 4));
+    done(run, mark_undelivered("RA1", 5));
+    done(run, withdraw("RA1", 6));
+    done(run, withdraw("RA1", 7));
+    let returned = Draft::new("RB1", &[1, 2, 1, 10_000, 3])
+        .with_fault(1, 9)
+        .with_fault(2, 1);
+    funded(run, &returned.with_tariff(0, 9_999), 0);
+    done(run, go_ahead("RB1"));
+    done(run, pair("RB1"));
+    done(run, withdraw("RB1", 3));
+    done(run, withdraw("RB1", 4));
+    done(run, give_back("RB1", Opr, O));
+    done(run, give_back("RB1", Zzr, O));
+    let closed = Draft::new("RC1", &[999_999_649, 77]);
+    funded(run, &closed.with_tariff(350, 10_000), 0);
+    done(run, close("RC1"));
 }
 
 /// Closed: with a fault, a go-ahead and surplus gone and left, and with

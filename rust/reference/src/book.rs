@@ -1,5 +1,6 @@
 //! The book as plain values, its calls and their answers.
 
+use crate::fee::{Fee, Tariff};
 use crate::file::{ask_profile, open, Profile};
 use crate::name::{read_title, Name};
 use crate::{MOST_AMOUNT, MOST_ROWS, MOST_SHIPMENTS, MOST_SUM};
@@ -160,24 +161,39 @@ impl State {
     }
 }
 
-/// "An order's row has its amount and a state".
+/// "An order's row has its amount and a state", and document 02 has "rows their
+/// fee and remainder".
 #[derive(Clone, Debug, PartialEq, Eq)]
 pub struct Row {
     /// The order's amount in grosze.
     pub amount: u64,
+    /// Its fee, and the division's remainder.
+    pub fee: Fee,
     /// Its state.
     pub state: State,
 }
 
+impl Row {
+    /// What the order is worth in a money: its amount, or its fee. "Earned and
+    /// returned fees are each order's own from here on" (document 02).
+    pub fn worth(&self, money: Money) -> u64 {
+        match money {
+            Money::K => self.amount,
+            Money::O => self.fee.fee,
+        }
+    }
+}
+
 /// "A shipment has its name parts, fee F (the profile's for its kind), stage
 /// Waiting, Paired or Closed, whether a go-ahead (OBS) came, transfers accepted
-/// per money, and surplus returned per money."
+/// per money, and surplus returned per money." By document 02, "Shipments keep
+/// flat part and rate" instead of F.
 #[derive(Clone, Debug, PartialEq, Eq)]
 pub struct Shipment {
     /// Its name parts.
     pub name: Name,
-    /// Its fee F.
-    pub fee: u64,
+    /// Its flat part and rate.
+    pub tariff: Tariff,
     /// Its stage.
     pub stage: Stage,
     /// Whether a go-ahead came.
@@ -211,13 +227,10 @@ impl Shipment {
         }
     }
 
-    /// "Need: K is the sum of all amounts, faulty ones too; O is order count
-    /// times F."
+    /// "Need: K is the sum of all amounts, faulty ones too", and by document 02
+    /// "the need in O is the sum of fees".
     pub fn need(&self, money: Money) -> u64 {
-        match money {
-            Money::K => self.rows.iter().map(|row| row.amount).sum(),
-            Money::O => self.rows.len() as u64 * self.fee,
-        }
+        self.rows.iter().map(|row| row.worth(money)).sum()
     }
 
     /// "Free money is transfers accepted, less the need once Paired, less
@@ -239,18 +252,10 @@ impl Shipment {
         let mut held = 0;
         for row in &self.rows {
             if row.state.holds(money) {
-                held += self.worth(row, money);
+                held += row.worth(money);
             }
         }
         held
-    }
-
-    /// What a row is worth in a money: its amount, or F.
-    pub(crate) fn worth(&self, row: &Row, money: Money) -> u64 {
-        match money {
-            Money::K => row.amount,
-            Money::O => self.fee,
-        }
     }
 
     /// Is there a faulty order?
@@ -273,7 +278,7 @@ impl Shipment {
             self.returned_k,
             self.returned_o,
         ];
-        if self.fee > MOST_AMOUNT || sums.iter().any(|sum| *sum > MOST_SUM) {
+        if !self.tariff.is_in_range() || sums.iter().any(|sum| *sum > MOST_SUM) {
             return false;
         }
         // "an order in each shipment"
@@ -283,6 +288,10 @@ impl Shipment {
         for row in &self.rows {
             // "every number in its range"
             if row.amount < 1 || row.amount > MOST_AMOUNT {
+                return false;
+            }
+            // "(the division holds)" (document 02)
+            if !self.tariff.divides(row.amount, row.fee) {
                 return false;
             }
             match row.state {
@@ -429,7 +438,7 @@ pub enum Answer {
         /// What is missing of O.
         o: u64,
     },
-    /// "An accepted post answers F".
+    /// "An accepted post answers F": by document 02, the order's own fee.
     FeeEarned(u64),
     /// "pay the order's amount".
     AmountPaid(u64),
@@ -545,7 +554,7 @@ impl Book {
 
     /// Intake of an order file.
     fn intake(&mut self, profile: &Profile, name: &[u8], file: &[u8]) -> Result<Answer, u32> {
-        // "Profile within the ranges above? 905"
+        // "Profile within the ranges above? 905", then document 02's 907
         ask_profile(profile)?;
         // "Lent book sound? 900 (at intake only; 10 would be taken for 010)"
         if !self.is_sound() {
@@ -557,7 +566,7 @@ impl Book {
         if self.shipment(&opened.name.identifier).is_some() {
             return Err(101);
         }
-        // The file's questions 102 to 132.
+        // The file's questions 102 to 132, then document 02's 906.
         let file = opened.judge_rest(profile)?;
         // "Fewer than 32 shipments in the book? 903"
         if self.shipments.len() >= MOST_SHIPMENTS {
@@ -585,12 +594,13 @@ impl Book {
             };
             rows.push(Row {
                 amount: order.amount,
+                fee: order.fee,
                 state,
             });
         }
         self.shipments.push(Shipment {
-            fee: profile.fees[usize::from(file.name.kind)],
             name: file.name,
+            tariff: file.tariff,
             stage: Stage::Waiting,
             go_ahead: false,
             accepted_k: 0,
@@ -690,13 +700,13 @@ impl Book {
     }
 
     /// The questions that post, pay, mark undelivered and withdraw one share:
-    /// 13, 19, 20, and 21 with the state that fits. Gives back the row and F.
+    /// 13, 19, 20, and 21 with the state that fits. Gives back the row.
     fn row_in_state(
         &mut self,
         identifier: &[u8],
         order: u64,
         fitting: State,
-    ) -> Result<(&mut Row, u64), u32> {
+    ) -> Result<&mut Row, u32> {
         // "13"
         let shipment = self.known(identifier)?;
         // "Paired? 19"
@@ -707,39 +717,38 @@ impl Book {
         if order < 1 || order > shipment.rows.len() as u64 {
             return Err(20);
         }
-        let fee = shipment.fee;
         let row = &mut shipment.rows[order as usize - 1];
         // "State fits? 21"
         if row.state != fitting {
             return Err(21);
         }
-        Ok((row, fee))
+        Ok(row)
     }
 
-    /// "Post: Open to Posted, F earned."
+    /// "Post: Open to Posted, F earned": the order's own fee.
     fn post(&mut self, identifier: &[u8], order: u64) -> Result<Answer, u32> {
-        let (row, fee) = self.row_in_state(identifier, order, State::Open)?;
+        let row = self.row_in_state(identifier, order, State::Open)?;
         row.state = State::Posted;
-        Ok(Answer::FeeEarned(fee))
+        Ok(Answer::FeeEarned(row.worth(Money::O)))
     }
 
     /// "Pay: Posted to Paid."
     fn pay(&mut self, identifier: &[u8], order: u64) -> Result<Answer, u32> {
-        let (row, _) = self.row_in_state(identifier, order, State::Posted)?;
+        let row = self.row_in_state(identifier, order, State::Posted)?;
         row.state = State::Paid;
-        Ok(Answer::AmountPaid(row.amount))
+        Ok(Answer::AmountPaid(row.worth(Money::K)))
     }
 
     /// "Undelivered: Posted to Undelivered, K waiting."
     fn mark_undelivered(&mut self, identifier: &[u8], order: u64) -> Result<Answer, u32> {
-        let (row, _) = self.row_in_state(identifier, order, State::Posted)?;
+        let row = self.row_in_state(identifier, order, State::Posted)?;
         row.state = State::Undelivered { k_waits: true };
         Ok(Answer::Done)
     }
 
     /// "Withdraw: Open to Withdrawn, both waiting."
     fn withdraw(&mut self, identifier: &[u8], order: u64) -> Result<Answer, u32> {
-        let (row, _) = self.row_in_state(identifier, order, State::Open)?;
+        let row = self.row_in_state(identifier, order, State::Open)?;
         row.state = State::Withdrawn { waits: Waits::BOTH };
         Ok(Answer::Done)
     }
@@ -787,7 +796,7 @@ impl Book {
         let mut count = 0;
         for row in &shipment.rows {
             if row.state.goes_by(route) && row.state.waits(money) {
-                sum += shipment.worth(row, money);
+                sum += row.worth(money);
                 count += 1;
             }
         }

@@ -3,23 +3,38 @@
 //! The questions stand in document 01's order. Three of that list are the
 //! book's own and are asked by [`crate::book`]: 900 (before 001), 101 (between
 //! 023 and 102), 903 and 904 (after 132). So the file's questions come in two
-//! parts, [`open`] up to 023 and [`Opened::judge_rest`] from 102.
+//! parts, [`open`] up to 023 and [`Opened::judge_rest`] from 102. Document 02's
+//! A5 adds 907 after 905 and 906 after 132.
 
 use crate::calendar::{is_real_date, is_time_of_day, is_within};
+use crate::fee::{Fee, Tariff};
 use crate::name::{read_name, Name};
 use crate::text::{are_digits, is_digit, is_letter, number, read_amount, read_sum};
-use crate::MOST_AMOUNT;
+use crate::{MOST_AMOUNT, MOST_RATE};
 
 /// "A profile carries today [...], five fees by benefit kind 0 to 4, [...] and
-/// R, the number of fields in a record line".
+/// R, the number of fields in a record line". By document 02, "the profile gives
+/// both per benefit kind", flat part and rate.
 #[derive(Clone, Debug, PartialEq, Eq)]
 pub struct Profile {
     /// Today, as the number yyyymmdd.
     pub today: u64,
-    /// The fee of each benefit kind, in grosze.
-    pub fees: [u64; 5],
+    /// The flat part of each benefit kind, in grosze.
+    pub flat: [u64; 5],
     /// R, the number of fields in a record line.
     pub fields: u64,
+    /// The rate of each benefit kind, in ten-thousandths.
+    pub rates: [u64; 5],
+}
+
+impl Profile {
+    /// Flat part and rate of a benefit kind.
+    pub fn tariff(&self, kind: u8) -> Tariff {
+        Tariff {
+            flat: self.flat[usize::from(kind)],
+            rate: self.rates[usize::from(kind)],
+        }
+    }
 }
 
 /// One order as the file states it.
@@ -27,6 +42,8 @@ pub struct Profile {
 pub struct Order {
     /// Its amount in grosze.
     pub amount: u64,
+    /// Its fee, and the division's remainder.
+    pub fee: Fee,
     /// Its first fault, 1 to 10, if it has one.
     pub fault: Option<u8>,
 }
@@ -36,6 +53,8 @@ pub struct Order {
 pub struct OrderFile {
     /// The parts of its name.
     pub name: Name,
+    /// Flat part and rate of its kind.
+    pub tariff: Tariff,
     /// Its orders, in the file's order.
     pub orders: Vec<Order>,
 }
@@ -48,19 +67,23 @@ impl OrderFile {
     }
 }
 
-/// "Profile within the ranges above? 905"
+/// "Profile within the ranges above? 905", and document 02's 907 behind it.
 pub fn ask_profile(profile: &Profile) -> Result<(), u32> {
     // "today (a real date, eight digits yyyymmdd)", years 2000 to 2099
     let today_good = is_real_date(profile.today);
-    // "five fees by benefit kind 0 to 4, each 0 to 999,999,999"
-    let fees_good = profile.fees.iter().all(|fee| *fee <= MOST_AMOUNT);
+    // "five fees by benefit kind 0 to 4, each 0 to 999,999,999", which are by
+    // document 02 "the flat part within the old fee range"
+    let flat_good = profile.flat.iter().all(|flat| *flat <= MOST_AMOUNT);
     // "R, the number of fields in a record line, 19 to 32"
     let fields_good = (19..=32).contains(&profile.fields);
-    if today_good && fees_good && fields_good {
-        Ok(())
-    } else {
-        Err(905)
+    if !(today_good && flat_good && fields_good) {
+        return Err(905);
     }
+    // "907 when any of the profile's rates is above 10,000, asked after 905"
+    if profile.rates.iter().any(|rate| *rate > MOST_RATE) {
+        return Err(907);
+    }
+    Ok(())
 }
 
 /// A file that has passed the questions 001 to 023.
@@ -159,7 +182,8 @@ pub fn open<'a>(name: &[u8], file: &'a [u8]) -> Result<Opened<'a>, u32> {
 }
 
 impl Opened<'_> {
-    /// The questions 102 to 132, and the faults of an accepted file's orders.
+    /// The questions 102 to 132, then 906, and the faults of an accepted file's
+    /// orders.
     pub fn judge_rest(self, profile: &Profile) -> Result<OrderFile, u32> {
         let field = |position: usize| self.header[position - 1].as_bytes();
 
@@ -235,13 +259,26 @@ impl Opened<'_> {
             return Err(132);
         }
 
+        // "906 when an order's fee exceeds 999,999,999, asked after 132"
+        let tariff = profile.tariff(self.name.kind);
+        if amounts
+            .iter()
+            .any(|amount| tariff.fee_of(*amount).fee > MOST_AMOUNT)
+        {
+            return Err(906);
+        }
+
         let mut orders = Vec::new();
         for (record, amount) in records.iter().zip(amounts) {
-            let fault = first_fault(record);
-            orders.push(Order { amount, fault });
+            orders.push(Order {
+                amount,
+                fee: tariff.fee_of(amount),
+                fault: first_fault(record),
+            });
         }
         Ok(OrderFile {
             name: self.name,
+            tariff,
             orders,
         })
     }

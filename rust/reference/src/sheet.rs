@@ -23,7 +23,7 @@ impl Shipment {
         let mut left = 0;
         for row in &self.rows {
             if self.counts_as_left(row.state, money) {
-                left += self.worth(row, money);
+                left += row.worth(money);
             }
         }
         left + self.returned(money)
@@ -43,7 +43,8 @@ impl Shipment {
                 State::Faulty { .. } | State::Undelivered { .. } | State::Withdrawn { .. },
             ) => in_a_paired_shipment && no_longer_waits,
             (Money::K, State::Open | State::Posted) => false,
-            // "O left is F for each Posted, Paid or Undelivered order,"
+            // "O left is F for each Posted, Paid or Undelivered order," each
+            // with its own fee (document 02)
             (Money::O, State::Posted | State::Paid | State::Undelivered { .. }) => true,
             // "plus F for each Faulty or Withdrawn one in a Paired shipment
             // whose O no longer waits"

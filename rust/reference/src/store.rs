@@ -3,12 +3,14 @@
 //! the library's; all other words quoted here are document 02's.
 
 use crate::book::{Book, Row, Shipment, Stage, State, Waits};
+use crate::fee::{Fee, Tariff};
 use crate::name::Name;
 use crate::output::write_to;
 use crate::{BOOK_BYTES, MOST_SHIPMENTS};
 
-/// "a form byte, 1"
-const FORM: u8 = 1;
+/// "a form byte, 1, which each later change of the record raises by 1": A5's
+/// flat part, rate, fees and remainders are such a change.
+const FORM: u8 = 2;
 
 /// The bytes of an identifier, with the zeros behind it.
 const IDENTIFIER: usize = 17;
@@ -96,7 +98,7 @@ fn body(shipment: &Shipment) -> Vec<u8> {
     body.push(name.identifier.len() as u8);
     body.extend((name.date as u32).to_le_bytes());
     body.extend([name.payment, name.kind]);
-    body.extend((shipment.fee as u32).to_le_bytes());
+    body.extend((shipment.tariff.flat as u32).to_le_bytes());
     body.extend([stage_byte(shipment.stage), u8::from(shipment.go_ahead)]);
     body.extend((shipment.rows.len() as u16).to_le_bytes());
     for sum in [
@@ -107,9 +109,12 @@ fn body(shipment: &Shipment) -> Vec<u8> {
     ] {
         body.extend(sum.to_le_bytes());
     }
+    body.extend((shipment.tariff.rate as u16).to_le_bytes());
     for row in &shipment.rows {
         body.extend((row.amount as u32).to_le_bytes());
         body.push(state_byte(row.state));
+        body.extend((row.fee.fee as u32).to_le_bytes());
+        body.extend((row.fee.remainder as u16).to_le_bytes());
     }
     body
 }
@@ -130,28 +135,35 @@ fn shipment(body: &[u8]) -> Option<Shipment> {
         payment: unread.number(1)? as u8,
         kind: unread.number(1)? as u8,
     };
-    let fee = unread.number(4)?;
+    let flat = unread.number(4)?;
     let stage = stage(unread.number(1)?)?;
     let go_ahead = flag(unread.number(1)?)?;
     let orders = unread.number(2)?;
-    let mut shipment = Shipment {
-        name,
-        fee,
-        stage,
-        go_ahead,
-        accepted_k: unread.number(8)?,
-        accepted_o: unread.number(8)?,
-        returned_k: unread.number(8)?,
-        returned_o: unread.number(8)?,
-        rows: Vec::new(),
-    };
+    let (accepted_k, accepted_o) = (unread.number(8)?, unread.number(8)?);
+    let (returned_k, returned_o) = (unread.number(8)?, unread.number(8)?);
+    let rate = unread.number(2)?;
+    let mut rows = Vec::new();
     for _ in 0..orders {
-        shipment.rows.push(Row {
+        rows.push(Row {
             amount: unread.number(4)?,
             state: state(unread.number(1)? as u8)?,
+            fee: Fee {
+                fee: unread.number(4)?,
+                remainder: unread.number(2)?,
+            },
         });
     }
-    unread.0.is_empty().then_some(shipment)
+    unread.0.is_empty().then_some(Shipment {
+        name,
+        tariff: Tariff { flat, rate },
+        stage,
+        go_ahead,
+        accepted_k,
+        accepted_o,
+        returned_k,
+        returned_o,
+        rows,
+    })
 }
 
 /// The byte of a stage.

@@ -1,8 +1,8 @@
 //! The calls on a shipment and on one order.
 
 use super::layout::{
-    accepted, amount, fee, identifier_bytes, is_faulty, name_bytes, stage, state, store_accepted,
-    Head, Parts, Row, GO_AHEAD, STAGE,
+    accepted, identifier_bytes, is_faulty, name_bytes, number, stage, state, store_accepted, sum,
+    Head, Own, Parts, GO_AHEAD, STAGE,
 };
 use super::name::read_title;
 use super::sound::is_sound;
@@ -20,13 +20,13 @@ impl<const SOUND: bool> Book<'_, SOUND> {
     }
 
     /// The head and the rows of a shipment (10, 13).
-    pub(super) fn shipment(&mut self, id: &[u8]) -> Result<(&mut Head, &mut [Row]), Refusal> {
+    pub(super) fn shipment(&mut self, id: &[u8]) -> Result<(&mut Head, Own<'_>), Refusal> {
         let parts = self.parts()?;
         parts.find(&identifier_bytes(id).ok_or(13u64)?)
     }
 
     /// The head and the rows of a shipment that is Waiting (10, 13, 15).
-    fn waiting(&mut self, id: &[u8]) -> Result<(&mut Head, &mut [Row]), Refusal> {
+    fn waiting(&mut self, id: &[u8]) -> Result<(&mut Head, Own<'_>), Refusal> {
         let (head, rows) = self.shipment(id)?;
         if head[STAGE] != stage::WAITING {
             return Err(15);
@@ -53,7 +53,7 @@ impl<const SOUND: bool> Book<'_, SOUND> {
     /// Takes the go-ahead for a shipment with faulty orders.
     pub fn go_ahead(&mut self, id: &[u8]) -> Result<(), Refusal> {
         let (head, rows) = self.waiting(id)?;
-        if !rows.iter().any(is_faulty) {
+        if !rows.states.iter().any(is_faulty) {
             return Err(16);
         }
         if head[GO_AHEAD] == 1 {
@@ -66,13 +66,11 @@ impl<const SOUND: bool> Book<'_, SOUND> {
     /// Pairs the shipment with its transfers, if they cover its needs.
     pub fn pair(&mut self, id: &[u8]) -> Result<Pairing, Refusal> {
         let (head, rows) = self.waiting(id)?;
-        if head[GO_AHEAD] == 0 && rows.iter().any(is_faulty) {
+        if head[GO_AHEAD] == 0 && rows.states.iter().any(is_faulty) {
             return Err(18);
         }
-        let amounts: u64 = rows.iter().map(|row| u64::from(amount(row))).sum();
-        let fees = fee(head) * rows.len() as u64;
-        let k = amounts.saturating_sub(accepted(head, Money::K));
-        let o = fees.saturating_sub(accepted(head, Money::O));
+        let k = sum(rows.amounts).saturating_sub(accepted(head, Money::K));
+        let o = sum(rows.fees).saturating_sub(accepted(head, Money::O));
         if k > 0 || o > 0 {
             return Ok(Pairing::Short {
                 k: Amount(k),
@@ -90,8 +88,8 @@ impl<const SOUND: bool> Book<'_, SOUND> {
         Ok(())
     }
 
-    /// Moves an order from a state to another, and gives back F and its amount
-    /// (10, 13, 19, 20, 21).
+    /// Moves an order from a state to another, and gives back its fee and its
+    /// amount (10, 13, 19, 20, 21).
     fn advance(
         &mut self,
         id: &[u8],
@@ -104,12 +102,14 @@ impl<const SOUND: bool> Book<'_, SOUND> {
             return Err(19);
         }
         let index = usize::try_from(order).map_err(|_| 20u64)?.checked_sub(1);
-        let row = index.and_then(|index| rows.get_mut(index)).ok_or(20u64)?;
-        if row[4] != from {
+        let index = index.filter(|index| *index < rows.states.len());
+        let index = index.ok_or(20u64)?;
+        if rows.states[index] != from {
             return Err(21);
         }
-        row[4] = to;
-        Ok((Fee(fee(head)), Amount(u64::from(amount(row)))))
+        rows.states[index] = to;
+        let (fee, amount) = (rows.fees[index], rows.amounts[index]);
+        Ok((Fee(number(fee)), Amount(number(amount))))
     }
 
     /// Posts an Open order and answers the fee that is earned.

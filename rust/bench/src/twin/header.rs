@@ -4,7 +4,7 @@ use super::calendar::{is_moment, is_real, is_within};
 use super::lines::{cut, line};
 use super::name::{read_name, Name};
 use super::text::{grosze, number};
-use super::{Refusal, ORDER_CAP};
+use super::{Refusal, ORDER_CAP, RATE_CAP};
 use buntingraft::Profile;
 
 /// An order file that has passed 001 to 023.
@@ -25,16 +25,19 @@ pub struct Stated {
     pub sum: u64,
 }
 
-/// Is the profile within its ranges (905)?
+/// Is the profile within its ranges (905, 907)?
 pub fn ask_profile(profile: &Profile) -> Result<(), Refusal> {
     let is_today_real = u32::try_from(profile.today).is_ok_and(is_real);
-    if is_today_real
-        && profile.fees.iter().all(|fee| *fee <= ORDER_CAP)
-        && (19..=32).contains(&profile.fields)
+    if !is_today_real
+        || profile.flat.iter().any(|flat| *flat > ORDER_CAP)
+        || !(19..=32).contains(&profile.fields)
     {
-        return Ok(());
+        return Err(905);
     }
-    Err(905)
+    if profile.rates.iter().any(|rate| *rate > RATE_CAP) {
+        return Err(907);
+    }
+    Ok(())
 }
 
 /// Asks a file and its name the questions 001 to 023.

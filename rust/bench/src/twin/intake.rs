@@ -1,9 +1,9 @@
 //! The intake of an order file.
 
 use super::header::{ask_profile, open};
-use super::layout::{name_bytes, new_head, state, store_row, MOST_ROWS};
+use super::layout::{name_bytes, new_head, state, Parts, MOST_ROWS};
 use super::records::{read_records, Order};
-use super::{Book, Refusal};
+use super::{Book, Refusal, RATE_CAP};
 use buntingraft::{Accepted, Profile};
 
 impl<const SOUND: bool> Book<'_, SOUND> {
@@ -22,8 +22,10 @@ impl<const SOUND: bool> Book<'_, SOUND> {
             return Err(101);
         }
         let stated = opened.ask_rest_of_header(profile.today as u32)?;
-        let fee = profile.fees[usize::from(opened.name.kind)];
+        let kind = usize::from(opened.name.kind);
+        let (flat, rate) = (profile.flat[kind], profile.rates[kind]);
         let orders = read_records(opened.records, &stated, profile.fields as usize)?;
+        orders.ask_fees(flat, rate)?;
         let used = book.row_count();
         let Some(head) = book.heads.get_mut(usize::from(*book.count)) else {
             return Err(903);
@@ -31,16 +33,32 @@ impl<const SOUND: bool> Book<'_, SOUND> {
         if used + orders.count > MOST_ROWS {
             return Err(904);
         }
-        *head = new_head(&name, fee, orders.count);
+        *head = new_head(&name, flat, rate, orders.count);
         *book.count += 1;
-        for (row, order) in book.rows[used..].iter_mut().zip(orders.kept()) {
-            store_row(row, order.amount, state_of(order));
-        }
+        store_orders(book, used, orders.kept(), flat, rate);
         let faulty = orders.kept().iter().filter(|order| order.fault > 0).count();
         Ok(Accepted {
             orders: orders.count as u64,
             faulty: faulty as u64,
         })
+    }
+}
+
+/// Stores orders behind those that the book has, with their fees.
+fn store_orders(book: Parts, used: usize, orders: &[Order], flat: u64, rate: u64) {
+    let own = used..used + orders.len();
+    for (place, order) in book.amounts[own.clone()].iter_mut().zip(orders) {
+        *place = order.amount.to_le_bytes();
+    }
+    let fees = book.fees[own.clone()].iter_mut();
+    let remainders = book.remainders[own.clone()].iter_mut();
+    for ((fee, remainder), order) in fees.zip(remainders).zip(orders) {
+        let product = u64::from(order.amount) * rate;
+        *fee = ((flat + product / RATE_CAP) as u32).to_le_bytes();
+        *remainder = ((product % RATE_CAP) as u16).to_le_bytes();
+    }
+    for (place, order) in book.states[own].iter_mut().zip(orders) {
+        *place = state_of(order);
     }
 }
 

@@ -23,6 +23,9 @@ pub use report::write_rkf;
 /// An order's amount and a fee are at most this.
 const ORDER_CAP: u64 = 999_999_999;
 
+/// A rate is at most this, and what a fee's division leaves is below it.
+const RATE_CAP: u64 = 10_000;
+
 /// A sum of transfers is at most this.
 const SUM_CAP: u64 = 9_999_999_999_999;
 

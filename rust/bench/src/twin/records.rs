@@ -5,7 +5,7 @@ use super::header::Stated;
 use super::layout::MOST_ROWS;
 use super::lines::{cut, line};
 use super::text::{grosze, number};
-use super::Refusal;
+use super::{Refusal, ORDER_CAP, RATE_CAP};
 use std::str::Split;
 
 /// An order as its record states it.
@@ -22,6 +22,7 @@ pub struct Orders {
     /// How many there are.
     pub count: usize,
     sum: u64,
+    most: u64,
     are_amounts: bool,
     kept: [Order; MOST_ROWS],
 }
@@ -38,6 +39,7 @@ impl Orders {
         let amount = grosze(record[2], 7).unwrap_or(0);
         self.are_amounts &= amount > 0;
         self.sum += amount;
+        self.most = self.most.max(amount);
         if let Some(place) = self.kept.get_mut(self.count) {
             *place = Order {
                 amount: amount as u32,
@@ -45,6 +47,15 @@ impl Orders {
             };
         }
         self.count += 1;
+    }
+
+    /// Asks whether each order's fee is in range (906): the largest amount has the
+    /// largest.
+    pub fn ask_fees(&self, flat: u64, rate: u64) -> Result<(), Refusal> {
+        if flat + self.most * rate / RATE_CAP > ORDER_CAP {
+            return Err(906);
+        }
+        Ok(())
     }
 
     /// Asks the questions 902 to 132.
@@ -71,6 +82,7 @@ pub fn read_records(
     let mut orders = Orders {
         count: 0,
         sum: 0,
+        most: 0,
         are_amounts: true,
         kept: [Order::default(); MOST_ROWS],
     };

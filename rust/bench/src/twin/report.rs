@@ -2,7 +2,7 @@
 //! orders.
 
 use super::calendar::is_moment;
-use super::layout::{identifier, is_faulty, Row};
+use super::layout::{identifier, is_faulty};
 use super::text::is_identifier;
 use super::{Book, Refusal};
 
@@ -51,7 +51,7 @@ impl<const SOUND: bool> Book<'_, SOUND> {
         if !is_identifier(own) || !is_moment(created) {
             return Err(31);
         }
-        let (faulty, records) = measure(rows, codes)?;
+        let (faulty, records) = measure(rows.states, codes)?;
         let header = Header {
             code: b"OPE",
             own,
@@ -63,10 +63,10 @@ impl<const SOUND: bool> Book<'_, SOUND> {
         let mut output = Output::of(output, length)?;
         output.put_header(&header);
         let mut running = 0;
-        for (order, row) in (1..).zip(&*rows) {
-            if is_faulty(row) {
+        for (order, state) in (1..).zip(&*rows.states) {
+            if is_faulty(state) {
                 running += 1;
-                output.put_record(running, order, codes[fault_index(row)]);
+                output.put_record(running, order, codes[fault_index(*state)]);
             }
         }
         Ok(length)
@@ -74,17 +74,17 @@ impl<const SOUND: bool> Book<'_, SOUND> {
 }
 
 /// The place of a faulty order's fault in a table of codes.
-fn fault_index(row: &Row) -> usize {
-    usize::from(row[4] / 4) - 3
+fn fault_index(state: u8) -> usize {
+    usize::from(state / 4) - 3
 }
 
 /// How many orders are faulty, and how long their records are together (31
 /// unless each has a code).
-fn measure(rows: &[Row], codes: &[u64]) -> Result<(u64, usize), Refusal> {
+fn measure(states: &[u8], codes: &[u64]) -> Result<(u64, usize), Refusal> {
     let (mut faulty, mut length) = (0, 0);
-    for (order, row) in (1..).zip(rows) {
-        if is_faulty(row) {
-            match codes.get(fault_index(row)) {
+    for (order, state) in (1..).zip(states) {
+        if is_faulty(state) {
+            match codes.get(fault_index(*state)) {
                 Some(308..=336) => {}
                 _ => return Err(31),
             }

@@ -1,7 +1,7 @@
 //! The four returns.
 
 use super::layout::{
-    accepted, amount, fee, returned, stage, state, store_returned, Head, Row, STAGE,
+    accepted, number, returned, stage, state, store_returned, sum, Head, Own, STAGE,
 };
 use super::{Book, Refusal};
 use buntingraft::{Money, Returned, Route};
@@ -16,7 +16,7 @@ impl<const SOUND: bool> Book<'_, SOUND> {
     ) -> Result<Returned, Refusal> {
         let (head, rows) = self.shipment(id)?;
         if route == Route::Zwr {
-            return give_back_surplus(head, rows, money);
+            return give_back_surplus(head, &rows, money);
         }
         if head[STAGE] != stage::PAIRED {
             return Err(19);
@@ -24,16 +24,15 @@ impl<const SOUND: bool> Book<'_, SOUND> {
         if route == Route::Zpr && money == Money::O {
             return Err(22);
         }
-        give_back_waiting(head, rows, route, money)
+        give_back_waiting(rows, route, money)
     }
 }
 
 /// Gives back the free money (24, 23).
-fn give_back_surplus(head: &mut Head, rows: &[Row], money: Money) -> Result<Returned, Refusal> {
-    let need = match (head[STAGE], money) {
-        (stage::WAITING, _) => return Err(24),
-        (stage::PAIRED, Money::K) => rows.iter().map(|row| u64::from(amount(row))).sum(),
-        (stage::PAIRED, Money::O) => fee(head) * rows.len() as u64,
+fn give_back_surplus(head: &mut Head, rows: &Own, money: Money) -> Result<Returned, Refusal> {
+    let need = match head[STAGE] {
+        stage::WAITING => return Err(24),
+        stage::PAIRED => sum(rows.column(money)),
         _ => 0,
     };
     let before = returned(head, money);
@@ -57,35 +56,26 @@ fn states(route: Route) -> (u8, u8) {
     }
 }
 
-/// Gives back what waits in the orders of a route (23).
-fn give_back_waiting(
-    head: &Head,
-    rows: &mut [Row],
-    route: Route,
-    money: Money,
-) -> Result<Returned, Refusal> {
-    if money == Money::O && fee(head) == 0 {
-        return Err(23);
-    }
+/// Gives back what waits in the orders of a route (23). Fees of 0 go with others,
+/// but wait on where there is no other.
+fn give_back_waiting(rows: Own, route: Route, money: Money) -> Result<Returned, Refusal> {
     let (first, last) = states(route);
     let wait = match money {
         Money::K => state::K_WAITS,
         Money::O => state::O_WAITS,
     };
-    let (mut amounts, mut count) = (0, 0);
-    for row in rows {
-        let is_by_route = (first..=last).contains(&row[4]);
-        let waits = is_by_route && row[4] & wait != 0;
-        row[4] -= if waits { wait } else { 0 };
-        amounts += u64::from(waits) * u64::from(amount(row));
-        count += u64::from(waits);
+    let waits = |state: u8| (first..=last).contains(&state) && state & wait != 0;
+    let (mut sum, mut count) = (0, 0);
+    for (grosze, state) in rows.column(money).iter().zip(&*rows.states) {
+        let waits = u64::from(waits(*state));
+        sum += waits * number(*grosze);
+        count += waits;
     }
-    let sum = match money {
-        Money::K => amounts,
-        Money::O => fee(head) * count,
-    };
-    match count {
-        0 => Err(23),
-        _ => Ok(Returned { sum, count }),
+    if sum == 0 {
+        return Err(23);
     }
+    for state in rows.states {
+        *state -= if waits(*state) { wait } else { 0 };
+    }
+    Ok(Returned { sum, count })
 }

@@ -1,6 +1,8 @@
 //! The balance sheet.
 
-use super::layout::{accepted, amount, fee, orders, returned, stage, state, Head, Row, STAGE};
+use super::layout::{
+    accepted, number, orders, returned, stage, state, sum, Grosze, Head, Rows, STAGE,
+};
 use super::{Book, Refusal};
 use buntingraft::{Amount, Fee, Money, SheetRow, Totals, MOST_SHIPMENTS};
 
@@ -19,7 +21,7 @@ impl<const SOUND: bool> Book<'_, SOUND> {
         let table = table.get_mut(..heads.len()).ok_or(25u64)?;
         let mut filled = [SheetRow::default(); MOST_SHIPMENTS];
         let mut sums = added(*totals, Totals::default())?;
-        let mut rows = &*book.rows;
+        let mut rows = book.rows();
         for (row, head) in filled.iter_mut().zip(heads) {
             let (own, later) = rows.split_at(orders(head));
             *row = sheet_row(head, own);
@@ -33,10 +35,16 @@ impl<const SOUND: bool> Book<'_, SOUND> {
 }
 
 /// The row of a shipment.
-fn sheet_row(head: &Head, rows: &[Row]) -> SheetRow {
+fn sheet_row(head: &Head, rows: Rows) -> SheetRow {
     let is_paired = head[STAGE] == stage::PAIRED;
     let (needs, held) = if is_paired {
-        needs_and_held(fee(head), rows)
+        (
+            [sum(rows.amounts), sum(rows.fees)],
+            [
+                held(rows.amounts, rows.states, holds_amount),
+                held(rows.fees, rows.states, holds_fee),
+            ],
+        )
     } else {
         ([0; 2], [0; 2])
     };
@@ -61,18 +69,22 @@ fn sheet_row(head: &Head, rows: &[Row]) -> SheetRow {
     }
 }
 
-/// The needs of a Paired shipment, and what its orders hold: of K and of O.
-fn needs_and_held(fee: u64, rows: &[Row]) -> ([u64; 2], [u64; 2]) {
-    let (mut need, mut held, mut fees_held) = (0, 0, 0);
-    for row in rows {
-        let (amount, code) = (u64::from(amount(row)), row[4]);
-        let waits = |wait| code >= state::UNDELIVERED && code & wait != 0;
-        need += amount;
-        held += u64::from(code <= state::POSTED || waits(state::K_WAITS)) * amount;
-        fees_held +=
-            u64::from(code == state::OPEN || code >= state::WITHDRAWN && waits(state::O_WAITS));
-    }
-    ([need, fee * rows.len() as u64], [held, fee * fees_held])
+/// Does an order of a Paired shipment in this state hold its amount?
+fn holds_amount(state: u8) -> bool {
+    state <= state::POSTED || state >= state::UNDELIVERED && state & state::K_WAITS != 0
+}
+
+/// Does it hold its fee?
+fn holds_fee(state: u8) -> bool {
+    state == state::OPEN || state >= state::WITHDRAWN && state & state::O_WAITS != 0
+}
+
+/// What the orders of a Paired shipment hold of a money.
+fn held(column: &[Grosze], states: &[u8], holds: impl Fn(u8) -> bool) -> u64 {
+    let orders = column.iter().zip(states);
+    orders
+        .map(|(grosze, state)| u64::from(holds(*state)) * number(*grosze))
+        .sum()
 }
 
 /// The totals with a row's sums, none above the cap (26).

@@ -1,18 +1,18 @@
 //! A book as stored bytes (docs/LAYOUT.md), and back.
 
-use super::layout::{orders, Head, Parts};
+use super::layout::{orders, Head, Parts, Rows, MOST_ROWS};
 use super::sound::is_sound;
 use super::{Book, Refusal};
 use buntingraft::BOOK_BYTES;
 
 /// The form in which books are stored.
-const FORM: u8 = 1;
+const FORM: u8 = 2;
 
 /// The bytes before the table.
 const FRONT: usize = 2;
 
-/// The bytes of a row that are stored.
-const ROW: usize = 5;
+/// The bytes of a stored row.
+const ROW: usize = 11;
 
 /// A shipment's bytes in the table.
 type Entry = [u8; 8];
@@ -29,16 +29,14 @@ impl<const SOUND: bool> Book<'_, SOUND> {
         let (front, mut bodies) = output.split_at_mut(start);
         let (front, table) = front.split_at_mut(FRONT);
         front.copy_from_slice(&[FORM, *book.count]);
-        let mut rows = &*book.rows;
+        let mut rows = book.rows();
         for (place, head) in table.as_chunks_mut().0.iter_mut().zip(heads) {
             let (own, later) = rows.split_at(orders(head));
             let (body, behind) = bodies.split_at_mut(body_length(head));
             *place = entry(start, body.len());
             let (body_head, body_rows) = body.split_at_mut(head.len());
             body_head.copy_from_slice(head);
-            for (stored, row) in body_rows.as_chunks_mut::<ROW>().0.iter_mut().zip(own) {
-                stored.copy_from_slice(&row[..ROW]);
-            }
+            pack(own, body_rows.as_chunks_mut().0);
             start += body.len();
             (bodies, rows) = (behind, later);
         }
@@ -56,6 +54,18 @@ impl<const SOUND: bool> Book<'_, SOUND> {
         let memory = self.0.first_chunk_mut().ok_or(30u64)?;
         *memory = scratch;
         Ok(())
+    }
+}
+
+/// Stores the columns row by row: amount, state, fee, remainder.
+fn pack(rows: Rows, stored: &mut [[u8; ROW]]) {
+    let orders = rows.amounts.iter().zip(rows.states);
+    let rows = orders.zip(rows.fees).zip(rows.remainders);
+    for (stored, (((amount, state), fee), remainder)) in stored.iter_mut().zip(rows) {
+        stored[..4].copy_from_slice(amount);
+        stored[4] = *state;
+        stored[5..9].copy_from_slice(fee);
+        stored[9..].copy_from_slice(remainder);
     }
 }
 
@@ -77,20 +87,23 @@ fn unpack(stored: &[u8], book: &mut Parts) -> Option<()> {
     };
     let heads = book.heads.get_mut(..usize::from(*count))?;
     let (table, mut bodies) = rest.split_at_checked(size_of::<Entry>() * heads.len())?;
-    let mut start = FRONT + table.len();
-    let mut rows = &mut *book.rows;
+    let (mut start, mut used) = (FRONT + table.len(), 0);
     for (place, head) in table.as_chunks().0.iter().zip(heads) {
         *head = *bodies.first_chunk()?;
         let (body, behind) = bodies.split_at_checked(body_length(head))?;
-        let (own, later) = rows.split_at_mut_checked(orders(head))?;
-        if *place != entry(start, body.len()) {
+        let own = used..used + orders(head);
+        if *place != entry(start, body.len()) || own.end > MOST_ROWS {
             return None;
         }
-        for (row, stored) in own.iter_mut().zip(body[head.len()..].as_chunks::<ROW>().0) {
-            row[..ROW].copy_from_slice(stored);
+        let rows = body[head.len()..].as_chunks::<ROW>().0;
+        for (stored, at) in rows.iter().zip(own.clone()) {
+            book.amounts[at].copy_from_slice(&stored[..4]);
+            book.states[at] = stored[4];
+            book.fees[at].copy_from_slice(&stored[5..9]);
+            book.remainders[at].copy_from_slice(&stored[9..]);
         }
         start += body.len();
-        (bodies, rows) = (behind, later);
+        (bodies, used) = (behind, own.end);
     }
     *book.count = *count;
     bodies.is_empty().then_some(())

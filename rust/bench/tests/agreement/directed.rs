@@ -3,7 +3,7 @@
 use crate::Rivals;
 use bench::calls::{Answer, Call};
 use bench::files::{order_file, Records, PROFILE};
-use buntingraft::{Accepted, Money, Profile, Route};
+use buntingraft::{Accepted, Money, Profile, Returned, Route};
 
 const NAME: &str = "EPEZZS1-201007-A-0";
 const FILE: &str = "\u{FEFF}1|ZUS|EPE|1.0|ZS1|ABC123|20201007120000|20201007|A|0|3|175.50\r\n\
@@ -214,6 +214,88 @@ fn profiles_and_windows_are_asked_alike() {
         let profile = Profile { fields, ..PROFILE };
         Rivals::new().make(Call::Intake(&profile, NAME.as_bytes(), FILE.as_bytes()));
     }
+}
+
+#[test]
+fn flat_parts_and_rates_are_asked_alike() {
+    let cases = [
+        (350, 10_000, 0),
+        (350, 10_001, 907),
+        (350, u64::MAX, 907),
+        (999_999_999, 0, 0),
+        (999_999_998, 1, 0),
+        (999_999_999, 1, 906),
+        (999_989_999, 10_000, 0),
+        (999_990_000, 10_000, 906),
+        (1_000_000_000, 10_001, 905),
+    ];
+    for (flat, rate, number) in cases {
+        let profile = Profile {
+            flat: [flat; 5],
+            rates: [rate; 5],
+            ..PROFILE
+        };
+        let answer = Rivals::new().make(Call::Intake(&profile, NAME.as_bytes(), FILE.as_bytes()));
+        match number {
+            0 => assert!(matches!(answer, Answer::Accepted(_)), "{flat} {rate}"),
+            _ => assert_eq!(answer, Answer::Refused(number), "{flat} {rate}"),
+        }
+    }
+}
+
+#[test]
+fn the_largest_amount_of_a_file_too_long_is_asked_for_its_fee_alike() {
+    let file = order_file("ZS1", 2_049, Records::Polish);
+    let text = String::from_utf8(file.bytes).expect("a file is text");
+    let (records, _) = text.rsplit_once("|000").expect("a record ends so");
+    let (records, last) = records.rsplit_once("\r\n").expect("a last record");
+    let mut fields: Vec<&str> = last.split('|').collect();
+    let amount: u64 = fields[2].replace('.', "").parse().expect("an amount");
+    fields[2] = "9999999.99";
+    let total = file.sum - amount + 999_999_999;
+    let (header, records) = records.split_once("\r\n").expect("a header");
+    let (header, _) = header.rsplit_once('|').expect("a sum");
+    let total = format!("{}.{:02}", total / 100, total % 100);
+    let text = format!("{header}|{total}\r\n{records}\r\n{}|000", fields.join("|"));
+    for (flat, number) in [(999_900_000, 904), (999_900_001, 906)] {
+        let profile = Profile {
+            flat: [flat; 5],
+            rates: [1; 5],
+            ..PROFILE
+        };
+        let answer = Rivals::new().make(Call::Intake(&profile, &file.name, text.as_bytes()));
+        assert_eq!(answer, Answer::Refused(number));
+    }
+}
+
+#[test]
+fn fees_of_zero_go_back_alike() {
+    let profile = Profile {
+        flat: [0; 5],
+        rates: [1; 5],
+        ..PROFILE
+    };
+    let mut rivals = Rivals::new();
+    let returned = |sum, count| Answer::Returned(Returned { sum, count });
+    let opr = Call::GiveBack(ID, Route::Opr, Money::O);
+    let zzr = Call::GiveBack(ID, Route::Zzr, Money::O);
+    for call in [
+        Call::Intake(&profile, NAME.as_bytes(), FILE.as_bytes()),
+        Call::Transfer(b"EPEZZS1-201007-A-0-K", 17_550),
+        Call::GoAhead(ID),
+        Call::Transfer(b"EPEZZS1-201007-A-0-O", 1),
+        Call::Pair(ID),
+        Call::Withdraw(ID, 3),
+    ] {
+        let answer = rivals.make(call);
+        assert!(!matches!(answer, Answer::Refused(_)), "{call:?} {answer:?}");
+    }
+    assert_eq!(rivals.make(opr), Answer::Refused(23));
+    assert_eq!(rivals.make(zzr), Answer::Refused(23));
+    assert_eq!(rivals.make(Call::Withdraw(ID, 1)), Answer::Done);
+    assert_eq!(rivals.make(zzr), returned(1, 2));
+    assert_eq!(rivals.make(zzr), Answer::Refused(23));
+    assert_eq!(rivals.make(opr), Answer::Refused(23));
 }
 
 const ID: &[u8] = b"ZS1";

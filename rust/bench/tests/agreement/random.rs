@@ -51,6 +51,24 @@ const IDS: [&str; 8] = [
     "Q",
 ];
 
+/// Flat parts and rates; with the last two a file is refused with 906 or 907.
+const TARIFFS: [(u64, u64); 14] = [
+    (0, 0),
+    (350, 0),
+    (350, 0),
+    (350, 0),
+    (999_999_999, 0),
+    (0, 1),
+    (0, 1),
+    (350, 125),
+    (350, 125),
+    (7, 9_999),
+    (0, 10_000),
+    (350, 10_000),
+    (999_999_999, 10_000),
+    (350, 10_001),
+];
+
 /// Makes a random intake.
 fn intake(dice: &mut Dice, rivals: &mut Rivals) -> Answer {
     let records = dice.one_of(&[Records::Ascii, Records::Polish, Records::Faulty]);
@@ -60,10 +78,12 @@ fn intake(dice: &mut Dice, rivals: &mut Rivals) -> Answer {
         1..=3 => dice.spoil(&mut file.bytes),
         _ => {}
     }
+    let (flat, rate) = dice.one_of(&TARIFFS);
     let profile = Profile {
         today: dice.one_of(&[20_201_007, 20_201_007, 20_200_910, 20_201_106, 20_201_132]),
-        fees: [dice.one_of(&[0, 350, 999_999_999]); 5],
+        flat: [flat; 5],
         fields: dice.one_of(&[21, 21, 21, 21, 20]),
+        rates: [rate; 5],
     };
     rivals.make(Call::Intake(&profile, &file.name, &file.bytes))
 }

@@ -132,7 +132,7 @@ fn faulty_orders_are_reported_alike() {
 
 #[test]
 fn memory_that_is_no_sound_book_has_no_report() {
-    for memory in [vec![], vec![0; 100], vec![0xFF; 20_000]] {
+    for memory in [vec![], vec![0; 100], vec![0xFF; 30_000]] {
         assert_eq!(agreed_ope(&memory, &ope(b"ZS1"), 0), Err(10));
     }
 }

@@ -2,7 +2,7 @@
 
 use crate::Rivals;
 use bench::calls::Call;
-use bench::files::{order_file, Records, PROFILE};
+use bench::files::{order_file, Records, PROFILE, RATED};
 use bench::sheets::{agreed_sheet, Lent};
 use buntingraft::{Amount, Fee, SheetRow, Totals};
 
@@ -67,8 +67,9 @@ fn an_empty_book_has_an_empty_sheet() {
 fn a_full_book_has_a_row_for_each_shipment() {
     let mut rivals = Rivals::new();
     for n in 1..=32 {
+        let profile = [&PROFILE, &RATED][n % 2];
         let file = order_file(&format!("SHIPMENT{n:02}"), 64, Records::Faulty);
-        rivals.make(Call::Intake(&PROFILE, &file.name, &file.bytes));
+        rivals.make(Call::Intake(profile, &file.name, &file.bytes));
     }
     assert_eq!(rivals.archive[0], 32);
     agree_on_sheets(&rivals.archive);
@@ -76,7 +77,7 @@ fn a_full_book_has_a_row_for_each_shipment() {
 
 #[test]
 fn memory_that_is_no_sound_book_has_no_sheet() {
-    for memory in [vec![0; 100], vec![0xFF; 20_000]] {
+    for memory in [vec![0; 100], vec![0xFF; 30_000]] {
         assert_eq!(agreed_sheet(&memory, &Lent::default()), Err(10));
     }
 }

@@ -4,7 +4,7 @@
 use crate::soundness::three_shipments;
 use crate::Rivals;
 use bench::calls::Call;
-use bench::files::{order_file, Records, PROFILE};
+use bench::files::{order_file, Records, RATED};
 use bench::stores::{agreed_load, agreed_store};
 use buntingraft::{BOOK_BYTES, MOST_STORED_BYTES};
 
@@ -28,7 +28,7 @@ pub fn agree_on_storing(book: &[u8]) -> Vec<u8> {
 
 #[test]
 fn an_empty_book_is_stored_alike() {
-    assert_eq!(agree_on_storing(&Rivals::new().archive), [1, 0]);
+    assert_eq!(agree_on_storing(&Rivals::new().archive), [2, 0]);
 }
 
 #[test]
@@ -57,7 +57,7 @@ fn bytes_missing_and_bytes_behind_are_refused_alike() {
     for length in 0..stored.len() {
         assert_eq!(agreed_load(&memory, &stored[..length]), Err(32));
     }
-    for behind in [1, 5, 8, 64, 1_000] {
+    for behind in [1, 8, 11, 66, 1_000] {
         let longer = [&stored[..], &vec![0; behind]].concat();
         assert_eq!(agreed_load(&memory, &longer), Err(32));
     }
@@ -75,17 +75,17 @@ fn swapped_entries_and_bodies_are_judged_alike() {
         let _ = agreed_load(&memory, &swapped);
     }
     let mut turned = stored.clone();
-    turned[26..].rotate_left(64 + 5 * 7);
+    turned[26..].rotate_left(66 + 11 * 7);
     assert_eq!(agreed_load(&memory, &turned), Ok(()));
 }
 
 #[test]
 fn full_books_are_stored_alike() {
-    for (shipments, orders, length) in [(1, 2_048, 10_314), (32, 64, MOST_STORED_BYTES)] {
+    for (shipments, orders, length) in [(1, 2_048, 22_604), (32, 64, MOST_STORED_BYTES)] {
         let mut rivals = Rivals::new();
         for n in 1..=shipments {
             let file = order_file(&format!("SHIPMENT{n:02}"), orders, Records::Faulty);
-            rivals.make(Call::Intake(&PROFILE, &file.name, &file.bytes));
+            rivals.make(Call::Intake(&RATED, &file.name, &file.bytes));
         }
         let stored = agree_on_storing(&rivals.archive);
         assert_eq!(stored.len(), length);
@@ -99,7 +99,7 @@ fn full_books_are_stored_alike() {
 
 #[test]
 fn memory_that_is_no_sound_book_is_not_stored() {
-    for memory in [vec![], vec![0; 100], vec![0xFF; 20_000]] {
+    for memory in [vec![], vec![0; 100], vec![0xFF; 30_000]] {
         assert_eq!(agreed_store(&memory, 0), Err(10));
         assert_eq!(agreed_store(&memory, MOST_STORED_BYTES), Err(10));
     }

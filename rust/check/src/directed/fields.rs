@@ -31,15 +31,31 @@ pub fn check(coverage: &mut Coverage) {
     identifiers(&mut run);
 }
 
-/// Fees and numbers of fields around their ranges, with records of as many
-/// fields, one fewer and one more.
+/// Flat parts and rates around their ranges, one alone and both, and numbers of
+/// fields around theirs, with records of as many fields, one fewer and one more.
 fn profiles(run: &mut Run) {
-    for (kind, fee) in (0..5)
-        .flat_map(|kind| [0, 1, 999_999_999, 1_000_000_000, u64::MAX].map(move |fee| (kind, fee)))
+    let flats = [0, 1, 999_999_999, 1_000_000_000, u64::MAX];
+    let rates = [
+        0,
+        1,
+        9_999,
+        10_000,
+        10_001,
+        65_535,
+        65_536,
+        1 << 32,
+        u64::MAX,
+    ];
+    for (flat, rate) in flats
+        .into_iter()
+        .flat_map(|flat| rates.map(|rate| (flat, rate)))
     {
-        let mut draft = Draft::zs1().with_kind("2");
-        draft.profile.fees[kind] = fee;
-        run.attempt(&[draft.intake()]);
+        for (flat_kind, rate_kind) in (0..25).map(|both| (both % 5, both / 5)) {
+            let mut draft = Draft::zs1().with_kind("2");
+            draft.profile.flat[flat_kind] = flat;
+            draft.profile.rates[rate_kind] = rate;
+            run.attempt(&[draft.intake()]);
+        }
     }
     for fields in 17..=34 {
         let draft = Draft::zs1().with_fields(fields);

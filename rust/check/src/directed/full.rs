@@ -7,14 +7,15 @@ use crate::draft::Draft;
 use crate::run::Run;
 use buntingraft::Money::{K, O};
 use buntingraft::Route::{Zpr, Zwr, Zzr};
-use reference::{Answer, MOST_AMOUNT, MOST_SUM};
+use reference::{Answer, MOST_AMOUNT, MOST_RATE, MOST_SUM};
 
 /// Fills books in each way.
 pub fn check(coverage: &mut Coverage) {
     most_shipments(coverage);
     most_rows(coverage);
     both(coverage);
-    most_money(coverage);
+    most_money(MOST_AMOUNT, 0, coverage);
+    most_money(0, MOST_RATE, coverage);
 }
 
 /// Takes in a file of so many orders of one grosz, which must be accepted.
@@ -86,13 +87,14 @@ fn both(coverage: &mut Coverage) {
     run.expect(grosze("BO33", 2_049), Answer::Refused(903));
 }
 
-/// The largest needs that a book can have, and the most money beside them.
-fn most_money(coverage: &mut Coverage) {
-    let mut run = Run::begin("the largest sums".into(), 0, coverage);
-    let mut draft = Draft::new("MO1", &[MOST_AMOUNT; 2_048]);
-    draft.profile.fees = [MOST_AMOUNT; 5];
+/// The largest needs that a book can have, of flat parts alone or of a rate, and
+/// the most money beside them.
+fn most_money(flat: u64, rate: u64, coverage: &mut Coverage) {
+    let title = format!("the largest sums, flat part {flat}, rate {rate}");
+    let mut run = Run::begin(title, 0, coverage);
+    let draft = Draft::new("MO1", &[MOST_AMOUNT; 2_048]);
     let need = 2_048 * MOST_AMOUNT;
-    run.call(draft.intake());
+    run.call(draft.with_tariff(flat, rate).intake());
     run.expect(pair("MO1"), Answer::Short { k: need, o: need });
     run.expect(transfer("EPEZMO1-201007-A-0-K", need - 1), Answer::Done);
     run.expect(transfer("EPEZMO1-201007-A-0-O", MOST_SUM), Answer::Done);

@@ -1,11 +1,12 @@
 //! Cases taken from the papers one by one: every question and every two, every
-//! boundary, every spelling of money, every refusal, long titles, full books,
-//! sheets, report files, money as text, stored books, journals, ZS1 and the field engineer's
-//! card.
+//! boundary, fees with a rate, every spelling of money, every refusal, long
+//! titles, full books, sheets, report files, money as text, stored books,
+//! journals, ZS1 and the field engineer's card.
 
 mod bytes;
 mod card;
 mod dates;
+mod fees;
 mod fields;
 mod full;
 mod money;
@@ -27,6 +28,7 @@ pub fn check(coverage: &mut Coverage) {
     bytes::check(coverage);
     dates::check(coverage);
     fields::check(coverage);
+    fees::check(coverage);
     spellings::check(coverage);
     refusals::check(coverage);
     titles::check(coverage);

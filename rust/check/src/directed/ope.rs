@@ -184,9 +184,9 @@ fn one_fault(run: &mut Run, fault: u8) {
 }
 
 /// The faulty orders of the shipments in all stages and what their records say,
-/// worked out by hand. Of PB1 the amounts went back by OPR, of PC1 the fees, of
-/// the longest both, of PZ1 amounts where fees are 0.
-const RECORDS: [(&str, &[&str]); 11] = [
+/// worked out by hand. Of PB1 the amounts went back by OPR, of PC1 and RB1 the
+/// fees, of the longest both, of PZ1 amounts where fees are 0.
+const RECORDS: [(&str, &[&str]); 15] = [
     ("ZS1", &["1|2|308"]),
     ("WA1", &["1|1|308"]),
     ("GA1", &["1|2|309", "2|3|317"]),
@@ -196,6 +196,10 @@ const RECORDS: [(&str, &[&str]); 11] = [
     ("PC1", &["1|2|316"]),
     (stages::LONGEST, &["1|2|316"]),
     ("PZ1", &["1|2|316"]),
+    ("RW1", &["1|2|308"]),
+    ("RA1", &["1|8|310", "2|9|315"]),
+    ("RB1", &["1|1|316", "2|2|308"]),
+    ("RC1", &[]),
     ("CL1", &["1|1|310"]),
     ("CN1", &[]),
 ];

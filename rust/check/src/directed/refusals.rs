@@ -111,6 +111,8 @@ fn returns() -> Vec<(u32, Call)> {
         (23, give_back("PB1", Zpr, K)),
         (23, give_back("PZ1", Opr, O)),
         (23, give_back("PZ1", Zzr, O)),
+        (23, give_back("RB1", Opr, O)),
+        (23, give_back("RB1", Zzr, O)),
         (23, give_back("PB1", Zwr, K)),
         (23, give_back("CN1", Zwr, O)),
     ];

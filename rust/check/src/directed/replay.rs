@@ -1,6 +1,6 @@
 //! Journals: one that has every call, with each of its bytes changed and cut off
-//! at every length; lengths at the end of the numbers; tables that are too
-//! short; memory that holds no empty book.
+//! at every length; intakes of every number of numbers; lengths at the end of the
+//! numbers; tables that are too short; memory that holds no empty book.
 
 use crate::calls::*;
 use crate::coverage::Coverage;
@@ -38,7 +38,7 @@ pub fn check(coverage: &mut Coverage) {
     for count in [0, 1, entries.len() as u64 + 1, 1 << 32, u64::MAX] {
         try_bytes(format!("of {count}"), &recounted(&journal, count));
     }
-    for (what, bytes) in long_texts() {
+    for (what, bytes) in long_texts().into_iter().chain(some_numbers()) {
         try_bytes(what, &bytes);
     }
     if let Err(difference) = check_places(&journal, 0..entries.len(), coverage) {
@@ -48,7 +48,7 @@ pub fn check(coverage: &mut Coverage) {
 }
 
 /// Calls that lead somewhere, each of the ten among them, one with a long
-/// title.
+/// title, and a second intake with a rate.
 fn every_call() -> Vec<Call> {
     vec![
         Draft::zs1().intake(),
@@ -65,7 +65,24 @@ fn every_call() -> Vec<Call> {
         give_back("ZS1", Route::Zzr, Money::O),
         give_back("ZS1", Route::Zwr, Money::K),
         close("ZS1"),
+        Draft::new("ZS2", &[9_999]).with_tariff(350, 125).intake(),
+        pair("ZS2"),
     ]
+}
+
+/// Journals of an intake with as many of its numbers as there are from 0 to two
+/// too many, and a pairing that tells what the fees are: with twelve numbers all
+/// of the profile, with seven no rates, as before there were any.
+fn some_numbers() -> Vec<(String, Vec<u8>)> {
+    let mut draft = Draft::new("ZS1", &[10_000, 9_999]).with_kind("4");
+    draft.profile.rates = [10_000, 1, 2, 3, 4];
+    let mut journals = Vec::new();
+    for count in 0..=14 {
+        let intake = Entry::of(&draft.intake()).with_numbers(count);
+        let journal = written(&[intake, Entry::of(&pair("ZS1"))]);
+        journals.push((format!("of an intake of {count} numbers"), journal));
+    }
+    journals
 }
 
 /// Journals of one transfer with two texts, whose lengths are at the end of the

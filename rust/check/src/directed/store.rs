@@ -1,4 +1,4 @@
-//! Stored books (document 02, A4): the readings' worked bytes; books of every
+//! Stored books (document 02, A4, in A5's form): worked bytes; books of every
 //! stage and state and full ones, stored into outputs of every kind and loaded
 //! into memory that held anything; and stored bytes changed, cut off, with bytes
 //! behind, and of books that are not sound.
@@ -12,11 +12,23 @@ use crate::run::Run;
 use crate::stages;
 use crate::storing::{five_others, with_byte};
 use buntingraft::{Book, MOST_STORED_BYTES};
-use reference::{Answer, Row, Shipment, Stage, State, Waits, MOST_AMOUNT, MOST_SUM};
+use reference::{Answer, Fee, Row, Shipment, Stage, State, Waits, MOST_AMOUNT, MOST_SUM};
 
-/// The readings' bytes of ZS1 just taken in.
+/// ZS1 just taken in: the readings' bytes of form 1, and what A5 adds.
 #[rustfmt::skip]
-const ZS1: [u8; 89] = [
+const ZS1: [u8; 109] = [
+    0x02, 0x01, 0x0A, 0x00, 0x00, 0x00, 0x63, 0x00, 0x00, 0x00, 0x5A, 0x53, 0x31, 0x00, 0x00, 0x00,
+    0x00, 0x00, 0x00, 0x00, 0x00, 0x00, 0x00, 0x00, 0x00, 0x00, 0x00, 0x03, 0x2F, 0x3E, 0x34, 0x01,
+    0x41, 0x00, 0x5E, 0x01, 0x00, 0x00, 0x00, 0x00, 0x03, 0x00, 0x00, 0x00, 0x00, 0x00, 0x00, 0x00,
+    0x00, 0x00, 0x00, 0x00, 0x00, 0x00, 0x00, 0x00, 0x00, 0x00, 0x00, 0x00, 0x00, 0x00, 0x00, 0x00,
+    0x00, 0x00, 0x00, 0x00, 0x00, 0x00, 0x00, 0x00, 0x00, 0x00, 0x00, 0x00, 0x10, 0x27, 0x00, 0x00,
+    0x00, 0x5E, 0x01, 0x00, 0x00, 0x00, 0x00, 0x88, 0x13, 0x00, 0x00, 0x0F, 0x5E, 0x01, 0x00, 0x00,
+    0x00, 0x00, 0xF6, 0x09, 0x00, 0x00, 0x00, 0x5E, 0x01, 0x00, 0x00, 0x00, 0x00,
+];
+
+/// The readings' bytes of the same in form 1, which no longer loads.
+#[rustfmt::skip]
+const ZS1_IN_FORM_1: [u8; 89] = [
     0x01, 0x01, 0x0A, 0x00, 0x00, 0x00, 0x4F, 0x00, 0x00, 0x00, 0x5A, 0x53, 0x31, 0x00, 0x00, 0x00,
     0x00, 0x00, 0x00, 0x00, 0x00, 0x00, 0x00, 0x00, 0x00, 0x00, 0x00, 0x03, 0x2F, 0x3E, 0x34, 0x01,
     0x41, 0x00, 0x5E, 0x01, 0x00, 0x00, 0x00, 0x00, 0x03, 0x00, 0x00, 0x00, 0x00, 0x00, 0x00, 0x00,
@@ -28,7 +40,8 @@ const ZS1: [u8; 89] = [
 /// Tries every such book.
 pub fn check(coverage: &mut Coverage) {
     worked(coverage);
-    zs1(coverage);
+    every_byte(&Draft::zs1(), &ZS1, coverage);
+    every_byte(&rated_draft(), &RATED, coverage);
     all_stages(coverage);
     full_books(coverage);
     questions(coverage);
@@ -40,19 +53,45 @@ fn refused(run: &mut Run, stored: &[u8]) {
     assert_eq!(answer, Answer::Refused(32), "{}", stored.escape_ascii());
 }
 
-/// The readings' bytes: an empty book's and ZS1's.
+/// ZS1 with two orders, a flat part and a rate, none of whose bytes is the same
+/// as another's by chance: 1,234,567.89 at 9,999 ten-thousandths is 123,444,443
+/// grosze, and 3,211 are left.
+#[rustfmt::skip]
+const RATED: [u8; 98] = [
+    0x02, 0x01, 0x0A, 0x00, 0x00, 0x00, 0x58, 0x00, 0x00, 0x00, 0x5A, 0x53, 0x31, 0x00, 0x00, 0x00,
+    0x00, 0x00, 0x00, 0x00, 0x00, 0x00, 0x00, 0x00, 0x00, 0x00, 0x00, 0x03, 0x2F, 0x3E, 0x34, 0x01,
+    0x41, 0x00, 0xEA, 0xFC, 0x3E, 0x34, 0x00, 0x00, 0x02, 0x00, 0x00, 0x00, 0x00, 0x00, 0x00, 0x00,
+    0x00, 0x00, 0x00, 0x00, 0x00, 0x00, 0x00, 0x00, 0x00, 0x00, 0x00, 0x00, 0x00, 0x00, 0x00, 0x00,
+    0x00, 0x00, 0x00, 0x00, 0x00, 0x00, 0x00, 0x00, 0x00, 0x00, 0x0F, 0x27, 0x15, 0xCD, 0x5B, 0x07,
+    0x00, 0xC5, 0x99, 0x9A, 0x3B, 0x8B, 0x0C, 0x88, 0x13, 0x00, 0x00, 0x0F, 0x71, 0x10, 0x3F, 0x34,
+    0x88, 0x13,
+];
+
+/// The file that is stored so: its second order has no surname.
+fn rated_draft() -> Draft {
+    Draft::new("ZS1", &[123_456_789, 5_000])
+        .with_field(2, 4, "")
+        .with_tariff(876_543_210, 9_999)
+}
+
+/// Worked bytes: an empty book's, ZS1's, and those of a shipment with a rate; and
+/// the readings' of forms 1 and 3, which are not the newest.
 fn worked(coverage: &mut Coverage) {
     let mut run = Run::begin("the worked stored bytes".into(), 0, coverage);
-    assert_eq!(run.store(2), Ok(vec![1, 0]));
-    assert_eq!(run.load_aside(&[1, 0]), Answer::Done);
+    assert_eq!(run.store(2), Ok(vec![2, 0]));
+    assert_eq!(run.load_aside(&[2, 0]), Answer::Done);
+    refused(&mut run, &[1, 0]);
     run.call(Draft::zs1().intake());
-    assert_eq!(run.store(89), Ok(ZS1.to_vec()));
-    assert_eq!(run.load_aside(&ZS1), Answer::Done);
-    let owned = Book::load(&ZS1).expect("the worked bytes are a stored book");
-    assert_eq!(owned.store(), Ok(ZS1.to_vec()));
-    // Form 3 of the readings, which no book is stored in yet.
-    let mut raised = [&ZS1[..74], &[0; 3]].concat();
-    for row in ZS1[74..].chunks(5) {
+    assert_eq!(run.store(109), Ok(ZS1.to_vec()));
+    for stored in [&ZS1[..], &RATED] {
+        assert_eq!(run.load_aside(stored), Answer::Done);
+        let owned = Book::load(stored).expect("the worked bytes are a stored book");
+        assert_eq!(owned.store().as_deref(), Ok(stored));
+    }
+    refused(&mut run, &ZS1_IN_FORM_1);
+    refused(&mut run, &with_byte(&ZS1_IN_FORM_1, 0, 2));
+    let mut raised = [&ZS1_IN_FORM_1[..74], &[0; 3]].concat();
+    for row in ZS1_IN_FORM_1[74..].chunks(5) {
         raised.extend(row);
         raised.extend([0x5E, 1, 0, 0, 0, 0]);
     }
@@ -61,30 +100,30 @@ fn worked(coverage: &mut Coverage) {
     refused(&mut run, &raised);
 }
 
-/// ZS1 with every byte changed to every other, in outputs of every length, and
-/// with each two of its bytes changed by one.
-fn zs1(coverage: &mut Coverage) {
-    let mut run = Run::begin("ZS1 stored".into(), 3, coverage);
-    run.call(Draft::zs1().intake());
-    for length in 0..=ZS1.len() + 5 {
-        let expected = if length < ZS1.len() {
+/// A file's book with every byte of it changed to every other, in outputs of
+/// every length, and with each two of its bytes changed by one.
+fn every_byte(draft: &Draft, stored: &[u8], coverage: &mut Coverage) {
+    let mut run = Run::begin("a small book stored".into(), 3, coverage);
+    run.call(draft.intake());
+    for length in 0..=stored.len() + 5 {
+        let expected = if length < stored.len() {
             Err(30)
         } else {
-            Ok(ZS1.to_vec())
+            Ok(stored.to_vec())
         };
         assert_eq!(run.store(length), expected, "{length}");
     }
-    for (place, good) in ZS1.iter().enumerate() {
+    for (place, good) in stored.iter().enumerate() {
         for byte in 0..=255 {
-            let _ = run.load_aside(&with_byte(&ZS1, place, byte));
+            let _ = run.load_aside(&with_byte(stored, place, byte));
         }
         for other in 0..place {
-            let mut changed = with_byte(&ZS1, place, good.wrapping_add(1));
+            let mut changed = with_byte(stored, place, good.wrapping_add(1));
             changed[other] = changed[other].wrapping_sub(1);
             let _ = run.load_aside(&changed);
         }
     }
-    cut_and_longer(&mut run, &ZS1);
+    cut_and_longer(&mut run, stored);
     refused(&mut run, b"");
 }
 
@@ -127,12 +166,13 @@ fn full_books(coverage: &mut Coverage) {
             let amounts: Vec<u64> = (1..=orders)
                 .map(|order| order * MOST_AMOUNT / 2_048)
                 .collect();
-            run.call(Draft::new(&format!("FU{place}"), &amounts).intake());
+            let draft = Draft::new(&format!("FU{place}"), &amounts);
+            run.call(draft.with_tariff(0, 313 * place as u64 % 10_001).intake());
         }
         assert_eq!(run.book().row_count(), shipments * orders as usize);
         full(
             &mut run,
-            2 + 72 * shipments + 5 * shipments * orders as usize,
+            2 + 74 * shipments + 11 * shipments * orders as usize,
         );
     }
 }
@@ -150,7 +190,7 @@ fn full(run: &mut Run, length: usize) {
             let _ = run.load_aside(&with_byte(&stored, place, byte));
         }
     }
-    for cut in (0..length).step_by(61).chain([length - 5, length - 1]) {
+    for cut in (0..length).step_by(61).chain([length - 11, length - 1]) {
         refused(run, &stored[..cut]);
     }
     refused(run, &[&stored[..], &[0]].concat());
@@ -198,14 +238,14 @@ fn cut_and_longer(run: &mut Run, stored: &[u8]) {
     for length in 0..stored.len() {
         refused(run, &stored[..length]);
     }
-    for more in [1, 2, 5, 8, 64, 69, 72, stored.len()] {
+    for more in [1, 2, 8, 11, 66, 77, 74, stored.len()] {
         for byte in [0, 1, 0xFF] {
             refused(run, &[stored, &vec![byte; more]].concat());
         }
     }
     refused(run, &[stored, stored].concat());
     refused(run, &stored[1..]);
-    refused(run, &[&[1], stored].concat());
+    refused(run, &[&[2], stored].concat());
 }
 
 /// Stored bytes with two entries of the table, two starts or two lengths swapped,
@@ -250,14 +290,24 @@ fn swapped(run: &mut Run, stored: &[u8]) {
 type Spoil = fn(&mut Shipment);
 
 /// Ways to make any shipment unsound.
-const SPOILS: [Spoil; 15] = [
+const SPOILS: [Spoil; 22] = [
     |shipment| shipment.name.identifier.truncate(2),
     |shipment| shipment.name.identifier[0] = b'1',
     |shipment| shipment.name.date = 20_210_229,
     |shipment| shipment.name.date = 19_991_231,
     |shipment| shipment.name.payment = b'C',
     |shipment| shipment.name.kind = 5,
-    |shipment| shipment.fee = MOST_AMOUNT + 1,
+    |shipment| shipment.tariff.flat = MOST_AMOUNT + 1,
+    |shipment| shipment.tariff.flat += 1,
+    |shipment| shipment.tariff.rate += 1,
+    |shipment| shipment.tariff.rate = u64::from(u16::MAX),
+    |shipment| shipment.rows[0].fee.fee += 1,
+    |shipment| shipment.rows[0].fee.fee += 1 << 28,
+    |shipment| shipment.rows[0].fee.remainder += 1,
+    |shipment| {
+        shipment.rows[0].fee.fee = shipment.rows[0].fee.fee.wrapping_sub(1);
+        shipment.rows[0].fee.remainder += 10_000;
+    },
     |shipment| shipment.accepted_k = MOST_SUM + 1,
     |shipment| shipment.accepted_o = u64::MAX,
     |shipment| shipment.returned_k = shipment.accepted_k + 1,
@@ -291,6 +341,10 @@ fn unsound(run: &mut Run) {
     let mut larger = book.clone();
     let row = Row {
         amount: 1,
+        fee: Fee {
+            fee: 350,
+            remainder: 0,
+        },
         state: State::Open,
     };
     let closed = larger.shipments.last_mut().expect("a Closed shipment");
@@ -323,7 +377,7 @@ fn questions(coverage: &mut Coverage) {
     run.call(Draft::zs1().intake());
     run.call(transfer("EPEZZS1-201007-A-0-K", 17_550));
     let stored = run.stored();
-    let bad = with_byte(&stored, 0, 2);
+    let bad = with_byte(&stored, 0, 1);
     let good = run.bytes().to_vec();
     let unsound = with_byte(&good, 0, 33);
     for memory in [&good, &unsound] {

@@ -3,7 +3,7 @@
 
 use super::{calls_in_turn, every_call, try_calls, Desk};
 use crate::coverage::Coverage;
-use crate::layout::{sound_book, HEAD, HEADS, LENGTH, ROW, ROWS};
+use crate::layout::{row_places, sound_book, HEAD, HEADS, LENGTH};
 use crate::numbers::Numbers;
 use crate::twin::Twin;
 use reference::Book;
@@ -65,12 +65,12 @@ fn four_others(good: u8) -> [u8; 4] {
 /// heads and the rows.
 fn owners(book: &Book) -> Vec<(usize, usize)> {
     let mut owners = vec![(0, 0)];
-    let mut row = ROWS;
+    let mut first = 0;
     for (shipment, held) in book.shipments.iter().enumerate() {
         let head = HEADS + HEAD * shipment;
-        let rows = row..row + ROW * held.rows.len();
-        row = rows.end;
-        let bytes = (head..head + HEAD).chain(rows);
+        let orders = first..first + held.rows.len();
+        first = orders.end;
+        let bytes = (head..head + HEAD).chain(orders.flat_map(row_places));
         owners.extend(bytes.map(|place| (place, shipment)));
     }
     owners

@@ -20,7 +20,7 @@ use crate::stages;
 use crate::storing;
 use crate::telling::{end_with, told};
 use crate::twin::Twin;
-use reference::{Book, Call};
+use reference::{Book, Call, MOST_RATE};
 
 /// Tries all such memory; `seed` draws what is random in it.
 pub fn check(seed: u64, coverage: &mut Coverage) {
@@ -37,17 +37,22 @@ pub fn check(seed: u64, coverage: &mut Coverage) {
 }
 
 /// Every call, for the shipment at a place of a book: an intake that would be
-/// accepted and one with a bad profile, a transfer, and each other call; with
-/// its orders, the routes, the moneys and both forms of a title in turn.
+/// accepted, with a rate or without, and one with a bad profile, a transfer, and
+/// each other call; with its orders, the routes, the moneys, both forms of a title
+/// and 905 and 907 in turn.
 fn every_call(book: &Book, place: usize, turn: usize) -> Vec<Call> {
     let shipment = &book.shipments[place];
     let identifier = &shipment.name.identifier;
     let id = String::from_utf8_lossy(identifier);
     let titled = [title, long_title][turn / 2 % 2];
-    let mut spoilt = Draft::new("XX1", &[100]);
-    spoilt.profile.fields = 33;
+    let good = Draft::new("XX1", &[100]).with_tariff(350, [0, 125][turn % 2]);
+    let mut spoilt = good.clone();
+    match turn % 2 {
+        0 => spoilt.profile.fields = 33,
+        _ => spoilt.profile.rates[turn / 2 % 5] = MOST_RATE + 1,
+    }
     let mut calls = vec![
-        Draft::new("XX1", &[100]).intake(),
+        good.intake(),
         spoilt.intake(),
         Call::Transfer {
             title: titled(&shipment.name, MONEYS[turn % 2]),

@@ -3,7 +3,7 @@
 use crate::helpers::*;
 use reference::calendar::{day_number, is_real_date};
 use reference::text::{is_identifier, read_amount, read_sum};
-use reference::{read_name, read_title, Book, Money, Profile};
+use reference::{read_name, read_title, Book, Money, Profile, Tariff};
 
 #[test]
 fn real_dates() {
@@ -199,8 +199,9 @@ fn the_largest_profile_and_the_largest_needs() {
     let mut draft = Draft::new("ZS1", &vec!["9999999.99"; 2_048]);
     draft.profile = Profile {
         today: 20_201_007,
-        fees: [999_999_999; 5],
+        flat: [999_999_999; 5],
         fields: 21,
+        rates: [0; 5],
     };
     assert_eq!(intake(&mut book, &draft), accepted(2_048, 0));
     let shipment = &book.shipments[0];
@@ -215,18 +216,18 @@ fn the_largest_profile_and_the_largest_needs() {
 }
 
 #[test]
-fn the_fee_is_fixed_at_intake() {
+fn the_tariff_is_fixed_at_intake() {
     let mut book = Book::empty();
     for (index, identifier) in ["AA1", "AA2", "AA3", "AA4", "AA5"].iter().enumerate() {
         let draft = Draft::new(identifier, &["1.00"])
             .name(&format!("EPEZ{identifier}-201007-A-{index}"))
             .header(10, &index.to_string());
         assert_eq!(intake(&mut book, &draft), accepted(1, 0));
-        assert_eq!(book.shipments[index].fee, 350 + index as u64);
+        let (flat, rate) = (350 + index as u64, 25 * index as u64);
+        assert_eq!(book.shipments[index].tariff, Tariff { flat, rate });
     }
-    let mut draft = Draft::new("AA6", &["1.00"]);
-    draft.profile.fees = [9; 5];
-    intake(&mut book, &draft);
-    assert_eq!(book.shipments[0].fee, 350);
-    assert_eq!(book.shipments[5].fee, 9);
+    intake(&mut book, &Draft::new("AA6", &["1.00"]).tariff(9, 10_000));
+    assert_eq!(book.shipments[0].tariff.flat, 350);
+    assert_eq!(book.shipments[5].tariff.flat, 9);
+    assert_eq!(book.shipments[5].tariff.rate, 10_000);
 }

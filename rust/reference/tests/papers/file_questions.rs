@@ -2,7 +2,7 @@
 //! every two questions, both broken, the earlier number.
 
 use crate::helpers::*;
-use reference::{Book, Money, Profile, Stage, State};
+use reference::{Book, Fee, Money, Profile, Stage, State, Tariff};
 
 /// A book and a file brought to it.
 #[derive(Clone)]
@@ -49,10 +49,12 @@ fn book_of_32() -> Book {
 
 type Break = fn(&mut Scene);
 
-/// Document 01's list in its order, each with a way to break just it.
+/// Document 01's list in its order, with document 02's 907 and 906 in it, each
+/// with a way to break just it.
 fn questions() -> Vec<(u32, Break)> {
     vec![
         (905, |s| s.draft.profile.fields = 18),
+        (907, |s| s.draft.profile.rates[4] = 10_001),
         (900, |s| {
             // "an order in each shipment"
             let mut other = zs1_waiting();
@@ -101,6 +103,7 @@ fn questions() -> Vec<(u32, Break)> {
             s.draft.header[11] = "150.00".into();
         }),
         (132, |s| s.draft.header[11] = "175.51".into()),
+        (906, |s| s.draft = s.draft.clone().tariff(999_999_999, 1)),
         (903, |s| {
             // 32 shipments beside the one broken in already, if any.
             if s.book.is_sound() {
@@ -125,7 +128,7 @@ fn the_good_scene_is_accepted() {
 #[test]
 fn each_question_alone() {
     let questions = questions();
-    assert_eq!(questions.len(), 36);
+    assert_eq!(questions.len(), 38);
     for (number, break_it) in questions {
         let mut scene = scene();
         break_it(&mut scene);
@@ -186,11 +189,11 @@ fn profile_905() {
         assert_eq!(judged(profile), Err(905), "{today}");
     }
     for kind in 0..5 {
-        let mut fees = [0; 5];
-        fees[kind] = 999_999_999;
-        assert_eq!(judged(Profile { fees, ..profile() }), Ok((3, 1)));
-        fees[kind] = 1_000_000_000;
-        assert_eq!(judged(Profile { fees, ..profile() }), Err(905));
+        let mut flat = [0; 5];
+        flat[kind] = 999_999_999;
+        assert_eq!(judged(Profile { flat, ..profile() }), Ok((3, 1)));
+        flat[kind] = 1_000_000_000;
+        assert_eq!(judged(Profile { flat, ..profile() }), Err(905));
     }
     for (fields, bad) in [(0, true), (18, true), (33, true), (u64::MAX, true)] {
         assert_eq!(
@@ -743,7 +746,8 @@ fn intake_adds_the_files_shipment() {
     assert_eq!(shipment.name.date, 20_201_006);
     assert_eq!(shipment.name.payment, b'B');
     assert_eq!(shipment.name.kind, 3);
-    assert_eq!(shipment.fee, 353);
+    let (flat, rate) = (353, 75);
+    assert_eq!(shipment.tariff, Tariff { flat, rate });
     assert_eq!(shipment.stage, Stage::Waiting);
     assert!(!shipment.go_ahead);
     for money in [Money::K, Money::O] {
@@ -758,4 +762,9 @@ fn intake_adds_the_files_shipment() {
     ));
     assert_eq!(shipment.rows[1].state, State::Open);
     assert_eq!(shipment.rows[1].amount, 200);
+    // 0.75 and 1.50 grosze beside the flat part.
+    let fees = [(353, 7_500), (354, 5_000)];
+    for (row, (fee, remainder)) in shipment.rows.iter().zip(fees) {
+        assert_eq!(row.fee, Fee { fee, remainder });
+    }
 }

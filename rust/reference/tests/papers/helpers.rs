@@ -14,8 +14,10 @@ pub const CAP: u64 = 9_999_999_999_999;
 pub fn profile() -> Profile {
     Profile {
         today: 20_201_007,
-        fees: [350, 351, 352, 353, 354],
+        flat: [350, 351, 352, 353, 354],
         fields: 21,
+        // "ZS1's rate is 0"
+        rates: [0, 25, 50, 75, 100],
     }
 }
 
@@ -105,7 +107,7 @@ impl Draft {
         for record in &self.records {
             sum += record[2].replace('.', "").parse::<u64>().unwrap();
         }
-        self.header[11] = format!("{}.{:02}", sum / 100, sum % 100);
+        self.header[11] = text_of(sum);
     }
 
     pub fn header(mut self, position: usize, value: &str) -> Draft {
@@ -126,6 +128,13 @@ impl Draft {
 
     pub fn today(mut self, today: u64) -> Draft {
         self.profile.today = today;
+        self
+    }
+
+    /// Sets flat part and rate of every kind.
+    pub fn tariff(mut self, flat: u64, rate: u64) -> Draft {
+        self.profile.flat = [flat; 5];
+        self.profile.rates = [rate; 5];
         self
     }
 
@@ -187,6 +196,11 @@ impl Draft {
         let file = reference::read_file(&self.profile, &self.name, &self.file()).unwrap();
         file.orders[0].fault
     }
+}
+
+/// An amount as the text of a record has it.
+pub fn text_of(amount: u64) -> String {
+    format!("{}.{:02}", amount / 100, amount % 100)
 }
 
 pub fn accepted(orders: u64, faulty: u64) -> Answer {

@@ -3,7 +3,7 @@
 //! nothing leaves twice, refused calls and other shipments' calls move nothing.
 
 use crate::helpers::*;
-use reference::{Answer, Book, Call, Money, SheetRow, Shipment};
+use reference::{Answer, Book, Call, Money, SheetRow, Shipment, Tariff};
 use std::collections::HashSet;
 
 /// A plain linear congruential sequence.
@@ -30,15 +30,16 @@ fn some_call(numbers: &mut Numbers) -> (usize, Call) {
     let call = match numbers.below(24) {
         0 => {
             let mut draft = Draft::new(name, &["100.00", "50.00", "25.50"]);
-            // Some orders faulty, some fees zero, some files refused.
+            // Some orders faulty, some files refused; fees of all orders alike,
+            // none, the rated part alone (some of them zero) or both parts.
             for record in &mut draft.records {
                 if numbers.below(4) == 0 {
                     record[3].clear();
                 }
             }
-            if numbers.below(4) == 0 {
-                draft.profile.fees = [0; 5];
-            }
+            let tariffs = [(350, 0), (0, 0), (0, 1), (7, 9_999)];
+            let (flat, rate) = tariffs[numbers.below(4) as usize];
+            draft = draft.tariff(flat, rate);
             if numbers.below(4) == 0 {
                 draft.header[11] = "175.51".into();
             }
@@ -82,6 +83,16 @@ fn on_the_sheet(rows: &[SheetRow], name: &str, place: usize) -> [u64; 4] {
         None => [0; 4],
         Some(row) => std::array::from_fn(|sum| row.sums[4 * place + sum]),
     }
+}
+
+/// "For every shipment, 10,000 times the sum of the rated parts plus the sum of
+/// the remainders equals the rate times the sum of the amounts."
+fn hold_the_sum_law(shipment: &Shipment) {
+    let Tariff { flat, rate } = shipment.tariff;
+    let rows = shipment.rows.iter();
+    let parts = rows.map(|row| 10_000 * (row.fee.fee - flat) + row.fee.remainder);
+    let amounts = shipment.need(Money::K);
+    assert_eq!(parts.sum::<u64>(), rate * amounts);
 }
 
 /// Which orders' money waits, for the rule that none leaves twice.
@@ -139,6 +150,7 @@ fn money_is_conserved_over_lists_of_calls() {
             }
             // A list goes on in the book that its stored bytes give back.
             book = Book::unstored(&book.stored()).expect("a stored sound book");
+            book.shipments.iter().for_each(hold_the_sum_law);
             let rows = sheet(&book);
             for (other, name) in IDENTIFIERS.iter().enumerate() {
                 for (place, money) in MONEYS.into_iter().enumerate() {

@@ -2,6 +2,7 @@
 
 mod boundaries;
 mod card;
+mod fees;
 mod file_questions;
 mod helpers;
 mod lists;

@@ -57,7 +57,10 @@ fn refusal_10_unsound() {
         ("date", |b| b.shipments[0].name.date = 20_210_229),
         ("payment", |b| b.shipments[0].name.payment = b'C'),
         ("kind", |b| b.shipments[0].name.kind = 5),
-        ("fee", |b| b.shipments[0].fee = 1_000_000_000),
+        ("flat part", |b| b.shipments[0].tariff.flat = 1_000_000_000),
+        ("rate", |b| b.shipments[0].tariff.rate = 10_001),
+        ("fee", |b| b.shipments[0].rows[0].fee.fee = 351),
+        ("remainder", |b| b.shipments[0].rows[0].fee.remainder = 1),
         ("accepted K", |b| b.shipments[0].accepted_k = CAP + 1),
         ("accepted O", |b| b.shipments[0].accepted_o = CAP + 1),
         ("surplus K", |b| b.shipments[0].returned_k = CAP + 1),
@@ -369,8 +372,9 @@ fn refusal_18_before_short() {
 #[test]
 fn a_fee_of_zero_needs_no_fees() {
     let mut book = Book::empty();
-    let mut draft = Draft::new("ZS1", &["1.00", "2.00"]).field(4, "");
-    draft.profile.fees = [0; 5];
+    let draft = Draft::new("ZS1", &["1.00", "2.00"])
+        .field(4, "")
+        .tariff(0, 0);
     assert_eq!(intake(&mut book, &draft), accepted(2, 1));
     go_ahead(&mut book, "ZS1");
     transfer(&mut book, TITLE_K, 300);

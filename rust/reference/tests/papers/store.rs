@@ -1,18 +1,34 @@
-//! "Keep the book in a file" (document 02, A4): the readings' worked bytes, what
-//! is stored in every stage and state, each way of being 32, and 10, 30 and 32
+//! "Keep the book in a file" (document 02, A4) in A5's form: ZS1's bytes written
+//! out, what is stored in every stage and state, each way of being 32, and 10, 30 and 32
 //! in their order.
 
 use crate::helpers::*;
 use reference::calendar::is_real_date;
-use reference::{Answer, Book, Row, Shipment, Stage, State, Waits, BOOK_BYTES};
+use reference::{Answer, Book, Shipment, Stage, State, Waits, BOOK_BYTES};
 
 /// Where ZS1's body begins, and its first row.
 const BODY: usize = 10;
-const ROWS: usize = BODY + 64;
+const ROWS: usize = BODY + 66;
 
-/// The readings' bytes of ZS1 just taken in.
+/// The bytes of a row, and the place of the state among them.
+const ROW: usize = 11;
+const STATE: usize = 4;
+
+/// ZS1 just taken in: the readings' bytes of form 1, and what A5 adds.
 #[rustfmt::skip]
-const ZS1: [u8; 89] = [
+const ZS1: [u8; 109] = [
+    0x02, 0x01, 0x0A, 0x00, 0x00, 0x00, 0x63, 0x00, 0x00, 0x00, 0x5A, 0x53, 0x31, 0x00, 0x00, 0x00,
+    0x00, 0x00, 0x00, 0x00, 0x00, 0x00, 0x00, 0x00, 0x00, 0x00, 0x00, 0x03, 0x2F, 0x3E, 0x34, 0x01,
+    0x41, 0x00, 0x5E, 0x01, 0x00, 0x00, 0x00, 0x00, 0x03, 0x00, 0x00, 0x00, 0x00, 0x00, 0x00, 0x00,
+    0x00, 0x00, 0x00, 0x00, 0x00, 0x00, 0x00, 0x00, 0x00, 0x00, 0x00, 0x00, 0x00, 0x00, 0x00, 0x00,
+    0x00, 0x00, 0x00, 0x00, 0x00, 0x00, 0x00, 0x00, 0x00, 0x00, 0x00, 0x00, 0x10, 0x27, 0x00, 0x00,
+    0x00, 0x5E, 0x01, 0x00, 0x00, 0x00, 0x00, 0x88, 0x13, 0x00, 0x00, 0x0F, 0x5E, 0x01, 0x00, 0x00,
+    0x00, 0x00, 0xF6, 0x09, 0x00, 0x00, 0x00, 0x5E, 0x01, 0x00, 0x00, 0x00, 0x00,
+];
+
+/// The same in form 1, which is the readings' example.
+#[rustfmt::skip]
+const ZS1_IN_FORM_1: [u8; 89] = [
     0x01, 0x01, 0x0A, 0x00, 0x00, 0x00, 0x4F, 0x00, 0x00, 0x00, 0x5A, 0x53, 0x31, 0x00, 0x00, 0x00,
     0x00, 0x00, 0x00, 0x00, 0x00, 0x00, 0x00, 0x00, 0x00, 0x00, 0x00, 0x03, 0x2F, 0x3E, 0x34, 0x01,
     0x41, 0x00, 0x5E, 0x01, 0x00, 0x00, 0x00, 0x00, 0x03, 0x00, 0x00, 0x00, 0x00, 0x00, 0x00, 0x00,
@@ -64,7 +80,7 @@ fn round_trip(book: &Book) {
     let stored = book.stored();
     assert_eq!(book.store(), Ok(stored.clone()));
     assert_eq!(unstored(&stored).as_ref(), Some(book));
-    let length = 2 + 72 * book.shipments.len() + 5 * book.row_count();
+    let length = 2 + 74 * book.shipments.len() + 11 * book.row_count();
     assert_eq!(stored.len(), length);
 }
 
@@ -101,16 +117,16 @@ fn book_of(shipments: usize, orders: usize) -> Book {
 fn the_worked_bytes() {
     assert_eq!(zs1_waiting().stored(), ZS1);
     assert_eq!(unstored(&ZS1), Some(zs1_waiting()));
-    assert_eq!(Book::empty().stored(), [1, 0]);
-    assert_eq!(unstored(&[1, 0]), Some(Book::empty()));
+    assert_eq!(Book::empty().stored(), [2, 0]);
+    assert_eq!(unstored(&[2, 0]), Some(Book::empty()));
 }
 
 #[test]
-fn the_longest_have_12_546_bytes() {
+fn the_longest_have_24_898_bytes() {
     let full = book_of(32, 64);
-    assert_eq!(full.stored().len(), 12_546);
+    assert_eq!(full.stored().len(), 24_898);
     round_trip(&full);
-    assert_eq!(book_of(1, 2_048).stored().len(), 2 + 8 + 64 + 5 * 2_048);
+    assert_eq!(book_of(1, 2_048).stored().len(), 2 + 8 + 66 + 11 * 2_048);
 }
 
 #[test]
@@ -123,28 +139,34 @@ fn the_table_has_the_start_and_the_length_of_each_body() {
     assert_eq!(
         stored[..26],
         [
-            1, 3,
-            26, 0, 0, 0, 79, 0, 0, 0,
-            105, 0, 0, 0, 0x1C, 6, 0, 0,
-            0x85, 6, 0, 0, 69, 0, 0, 0,
+            2, 3,
+            26, 0, 0, 0, 99, 0, 0, 0,
+            125, 0, 0, 0, 0x26, 0x0D, 0, 0,
+            0xA3, 0x0D, 0, 0, 77, 0, 0, 0,
         ]
     );
-    assert_eq!(stored[26..105], ZS1[BODY..]);
-    assert_eq!(stored[105..108], *b"AA1");
-    assert_eq!(stored[0x685..0x688], *b"MM1");
-    assert_eq!(stored.len(), 0x685 + 69);
+    assert_eq!(stored[26..125], ZS1[BODY..]);
+    assert_eq!(stored[125..128], *b"AA1");
+    assert_eq!(stored[0xDA3..0xDA6], *b"MM1");
+    assert_eq!(stored.len(), 0xDA3 + 77);
     round_trip(&book);
 }
 
 #[test]
 fn every_field_has_its_place() {
-    let mut book = zs1_waiting();
+    let mut book = Book::empty();
+    let amounts = ["1234567.89", "50.00", "0.01"];
+    let draft = Draft::new("ZS1", &amounts).tariff(876_543_210, 9_999);
+    intake(&mut book, &draft);
     let shipment = &mut book.shipments[0];
+    shipment.rows[1].state = State::Faulty {
+        fault: 1,
+        waits: Waits::BOTH,
+    };
     shipment.name.identifier = b"ZSabcdefgh0123456".to_vec();
     shipment.name.date = 20_991_231;
     shipment.name.payment = b'B';
     shipment.name.kind = 4;
-    shipment.fee = 999_999_999;
     shipment.stage = Stage::Closed;
     shipment.go_ahead = true;
     shipment.accepted_k = CAP;
@@ -157,13 +179,24 @@ fn every_field_has_its_place() {
     assert_eq!(body[17], 17);
     assert_eq!(body[18..22], [0xFF, 0x4C, 0x40, 0x01]);
     assert_eq!(body[22..24], [b'B', 4]);
-    assert_eq!(body[24..28], [0xFF, 0xC9, 0x9A, 0x3B]);
+    assert_eq!(body[24..28], 876_543_210u32.to_le_bytes());
     assert_eq!(body[28..32], [2, 1, 3, 0]);
     assert_eq!(body[32..40], [0xFF, 0x9F, 0x72, 0x4E, 0x18, 0x09, 0, 0]);
     assert_eq!(body[40..48], [6, 5, 4, 3, 2, 1, 0, 0]);
     assert_eq!(body[48..56], [1, 2, 3, 4, 5, 6, 0, 0]);
     assert_eq!(body[56..64], [7, 0, 0, 0, 0, 0, 0, 0]);
-    assert_eq!(body[64..], ZS1[ROWS..]);
+    assert_eq!(body[64..66], [0x0F, 0x27]);
+    // 123,456,789 times 9,999 is 1,234,444,433,211: the first fee is the flat
+    // part and 123,444,443 more, and 3,211 is left.
+    #[rustfmt::skip]
+    assert_eq!(
+        body[66..],
+        [
+            0x15, 0xCD, 0x5B, 0x07, 0, 0xC5, 0x99, 0x9A, 0x3B, 0x8B, 0x0C,
+            0x88, 0x13, 0x00, 0x00, 15, 0x71, 0x10, 0x3F, 0x34, 0x88, 0x13,
+            0x01, 0x00, 0x00, 0x00, 0, 0xEA, 0xFC, 0x3E, 0x34, 0x0F, 0x27,
+        ]
+    );
     round_trip(&book);
 }
 
@@ -182,9 +215,9 @@ fn round_trips_in_every_stage_and_state() {
     let book = every_state();
     round_trip(&book);
     let stored = book.stored();
-    let rows = stored[ROWS..].chunks(5);
+    let rows = stored[ROWS..].chunks(ROW);
     for (row, (state, byte)) in rows.zip(states()) {
-        assert_eq!(row, [1, 0, 0, 0, byte], "{state:?}");
+        assert_eq!(row[STATE], byte, "{state:?}");
     }
 }
 
@@ -214,17 +247,21 @@ fn may_stand(place: usize, byte: u8) -> bool {
         28..=31 => is_real_date(number(28, 4)),
         32 => byte == b'A' || byte == b'B',
         33 => byte <= 4,
-        34..=37 => number(34, 4) <= 999_999_999,
         // Closed is as sound as Waiting; Paired would need money.
         38 => byte == 0 || byte == 2,
         39 => byte <= 1,
         42..=49 => number(42, 8) <= CAP,
         50..=57 => number(50, 8) <= CAP,
-        74.. if (place - ROWS) % 5 == 4 => byte == 0 || (15..=51).contains(&byte) && byte % 4 == 3,
-        74.. => {
-            let row = place - (place - ROWS) % 5;
-            (1..=999_999_999).contains(&number(row, 4))
+        ROWS.. => {
+            let in_row = (place - ROWS) % ROW;
+            match in_row {
+                0..=3 => (1..=999_999_999).contains(&number(place - in_row, 4)),
+                STATE => byte == 0 || (15..=51).contains(&byte) && byte % 4 == 3,
+                _ => byte == ZS1[place],
+            }
         }
+        // Flat part, rate, fee and remainder among them: with the rate 0 each
+        // follows from the others.
         _ => byte == ZS1[place],
     }
 }
@@ -241,9 +278,32 @@ fn every_byte_of_zs1_changed_to_every_other() {
 }
 
 #[test]
+fn with_a_rate_no_byte_of_money_may_change_alone() {
+    let mut book = Book::empty();
+    let amounts = ["100.00", "0.01", "33.33"];
+    intake(&mut book, &Draft::new("ZS1", &amounts).tariff(350, 125));
+    let stored = book.stored();
+    round_trip(&book);
+    // Flat part and rate of the head; amount, fee and remainder of each row.
+    let mut places: Vec<usize> = (BODY + 24..BODY + 28).chain(BODY + 64..ROWS).collect();
+    for row in 0..amounts.len() {
+        let money = (0..ROW).filter(|place| *place != STATE);
+        places.extend(money.map(|place| ROWS + ROW * row + place));
+    }
+    for place in places {
+        for byte in (0..=255).filter(|byte| *byte != stored[place]) {
+            let mut stored = stored.clone();
+            stored[place] = byte;
+            assert_eq!(unstored(&stored), None, "{byte} at {place}");
+        }
+    }
+}
+
+#[test]
 fn every_byte_of_two_shipments_in_all_states_changed() {
     let mut book = every_state();
-    intake(&mut book, &Draft::new("ZS2", &["1.00"]).field(4, ""));
+    let draft = Draft::new("ZS2", &["1.00"]).field(4, "");
+    intake(&mut book, &draft.tariff(0, 9_999));
     let stored = book.stored();
     let mut loaded = 0;
     for place in 0..stored.len() {
@@ -263,7 +323,7 @@ fn bytes_missing_and_bytes_behind() {
         for length in 0..stored.len() {
             assert_eq!(unstored(&stored[..length]), None, "{length}");
         }
-        for more in [1, 2, 5, 64, 72, 1_000] {
+        for more in [1, 2, 11, 66, 74, 1_000] {
             for byte in [0, 1, 255] {
                 let longer = [&stored[..], &vec![byte; more]].concat();
                 assert_eq!(unstored(&longer), None, "{more} of {byte}");
@@ -275,19 +335,22 @@ fn bytes_missing_and_bytes_behind() {
 #[test]
 fn forms_and_counts() {
     for form in 0..=255 {
-        assert_eq!(unstored(&changed(0, &[form])).is_some(), form == 1);
-        assert_eq!(unstored(&[form, 0]).is_some(), form == 1);
+        assert_eq!(unstored(&changed(0, &[form])).is_some(), form == 2);
+        assert_eq!(unstored(&[form, 0]).is_some(), form == 2);
         assert_eq!(unstored(&[form]), None);
     }
+    // "Only the newest form loads."
+    assert_eq!(unstored(&ZS1_IN_FORM_1), None);
+    assert_eq!(unstored(&[&[2], &ZS1_IN_FORM_1[1..]].concat()), None);
     // A count above 32, even with as many bodies.
     let stored = book_of(32, 1).stored();
     assert!(unstored(&stored).is_some());
     let mut bodies = Vec::new();
-    let mut table = vec![1, 33];
+    let mut table = vec![2, 33];
     for place in 0..33u32 {
-        table.extend((2 + 8 * 33 + 69 * place).to_le_bytes());
-        table.extend(69u32.to_le_bytes());
-        let mut body = ZS1[BODY..ROWS + 5].to_vec();
+        table.extend((2 + 8 * 33 + 77 * place).to_le_bytes());
+        table.extend(77u32.to_le_bytes());
+        let mut body = ZS1[BODY..ROWS + ROW].to_vec();
         body[2] = b"0123456789abcdefghijklmnopqrstuvwxyz"[place as usize];
         body[30] = 1;
         bodies.extend(body);
@@ -297,10 +360,10 @@ fn forms_and_counts() {
 
 #[test]
 fn starts_lengths_and_gaps() {
-    for start in [0, 2, 9, 11, 74, 89, u32::MAX] {
+    for start in [0, 2, 9, 11, 76, 109, u32::MAX] {
         assert_eq!(unstored(&changed(2, &start.to_le_bytes())), None);
     }
-    for length in [0, 64, 69, 74, 78, 80, 84, u32::MAX] {
+    for length in [0, 66, 77, 88, 98, 100, 110, u32::MAX] {
         assert_eq!(unstored(&changed(6, &length.to_le_bytes())), None);
     }
     // A byte between the table and the body, with a start that says so.
@@ -323,7 +386,7 @@ fn starts_lengths_and_gaps() {
     assert_eq!(unstored(&swap(2, 10, 4)), None);
     assert_eq!(unstored(&swap(14, 22, 4)), None);
     // Bodies of equal length make another book.
-    let other = unstored(&swap(26, 105, 79)).unwrap();
+    let other = unstored(&swap(26, 125, 99)).unwrap();
     assert_eq!(other.shipments[0], book.shipments[1]);
 }
 
@@ -333,7 +396,7 @@ fn order_counts_that_are_not_those_of_the_body() {
         assert_eq!(unstored(&changed(40, &orders.to_le_bytes())), None);
     }
     // "an order in each shipment"
-    let mut none = changed(6, &[64]);
+    let mut none = changed(6, &[66]);
     none[40] = 0;
     none.truncate(ROWS);
     assert_eq!(unstored(&none), None);
@@ -384,22 +447,24 @@ fn spoilt(book: &Book, spoil: impl Fn(&mut Shipment)) {
 
 #[test]
 fn books_that_are_not_sound() {
-    let row = |amount, state| Row { amount, state };
     let waiting = zs1_waiting();
     spoilt(&waiting, |shipment| shipment.name.date = 20_210_229);
     spoilt(&waiting, |shipment| shipment.name.payment = b'C');
     spoilt(&waiting, |shipment| shipment.name.kind = 5);
-    spoilt(&waiting, |shipment| shipment.fee = 1_000_000_000);
+    spoilt(&waiting, |shipment| shipment.tariff.flat = 349);
+    spoilt(&waiting, |shipment| shipment.tariff.rate = 1);
+    spoilt(&waiting, |shipment| shipment.rows[2].fee.fee = 351);
+    spoilt(&waiting, |shipment| shipment.rows[2].fee.remainder = 1);
     spoilt(&waiting, |shipment| shipment.accepted_k = CAP + 1);
     spoilt(&waiting, |shipment| shipment.accepted_o = u64::MAX);
     spoilt(&waiting, |shipment| {
         (shipment.accepted_o, shipment.returned_o) = (1, 1);
     });
     spoilt(&waiting, |shipment| shipment.rows[0].amount = 0);
-    spoilt(&waiting, |shipment| shipment.rows[2] = row(1, State::Paid));
+    spoilt(&waiting, |shipment| shipment.rows[2].state = State::Paid);
     spoilt(&waiting, |shipment| {
         shipment.go_ahead = true;
-        shipment.rows[1] = row(1, State::Open);
+        shipment.rows[1].state = State::Open;
     });
     let paired = zs1_paired();
     spoilt(&paired, |shipment| shipment.go_ahead = false);
@@ -408,7 +473,7 @@ fn books_that_are_not_sound() {
     for stage in [Stage::Waiting, Stage::Closed] {
         spoilt(&paired, |shipment| {
             shipment.stage = stage;
-            shipment.rows[0] = row(1, State::Posted);
+            shipment.rows[0].state = State::Posted;
         });
     }
 }
@@ -433,7 +498,7 @@ fn storing_asks_10_and_then_30() {
     let mut unsound = zs1_paired();
     unsound.shipments[0].accepted_k -= 1;
     assert_eq!(unsound.store(), Err(10));
-    for length in [0, 88, 200] {
+    for length in [0, 108, 200] {
         let mut output = vec![0xAA; length];
         assert_eq!(unsound.store_into(&mut output), Err(10));
         assert_eq!(output, vec![0xAA; length]);
@@ -454,21 +519,22 @@ fn loading_asks_32_and_then_30() {
         for memory in [0, 1, BOOK_BYTES - 1] {
             let mut book = held.clone();
             assert_eq!(book.load(memory, &ZS1), Err(30));
-            assert_eq!(book.load(memory, &ZS1[..88]), Err(32));
+            assert_eq!(book.load(memory, &ZS1[..108]), Err(32));
             assert_eq!(book.load(memory, &[]), Err(32));
             assert_eq!(book, held);
         }
         let mut book = held.clone();
-        assert_eq!(book.load(BOOK_BYTES, &changed(0, &[2])), Err(32));
+        assert_eq!(book.load(BOOK_BYTES, &changed(0, &[1])), Err(32));
+        assert_eq!(book.load(BOOK_BYTES, &ZS1_IN_FORM_1), Err(32));
         assert_eq!(book, held);
     }
 }
 
 #[test]
 fn a_whole_output_with_its_unused_end_is_no_stored_book() {
-    let mut output = [0; 100];
-    assert_eq!(zs1_waiting().store_into(&mut output), Ok(89));
+    let mut output = [0; 120];
+    assert_eq!(zs1_waiting().store_into(&mut output), Ok(109));
     let mut book = Book::empty();
     assert_eq!(book.load(BOOK_BYTES, &output), Err(32));
-    assert_eq!(book.load(BOOK_BYTES, &output[..89]), Ok(()));
+    assert_eq!(book.load(BOOK_BYTES, &output[..109]), Ok(()));
 }

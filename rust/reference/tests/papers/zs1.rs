@@ -2,7 +2,7 @@
 
 use crate::helpers::*;
 use reference::text::read_amount;
-use reference::{Answer, Book, Money, Stage, State, Waits};
+use reference::{Answer, Book, Fee, Money, Stage, State, Tariff, Waits};
 
 const TITLE_K: &str = "EPEZZS1-201007-A-0-K";
 const TITLE_O: &str = "EPEZZS1-201007-A-0-O";
@@ -17,7 +17,13 @@ fn lines_1_to_8() {
     // 1,050."
     assert_eq!(intake(&mut book, &Draft::zs1()), accepted(3, 1));
     let shipment = book.shipment(b"ZS1").unwrap();
-    assert_eq!(shipment.fee, 350);
+    // "(ZS1's rate is 0)" (document 02, A5)
+    let tariff = Tariff { flat: 350, rate: 0 };
+    assert_eq!(shipment.tariff, tariff);
+    for row in &shipment.rows {
+        let (fee, remainder) = (350, 0);
+        assert_eq!(row.fee, Fee { fee, remainder });
+    }
     assert_eq!(shipment.need(Money::K), 17_550);
     assert_eq!(shipment.need(Money::O), 1_050);
     assert_eq!(shipment.stage, Stage::Waiting);
