@@ -1,2 +1,3 @@
 pub mod Fee
+pub mod Total
 pub mod Inner

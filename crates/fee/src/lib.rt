@@ -1,4 +1,7 @@
-// An order's fee: a flat part, and a rate in ten-thousandths of its amount. It knows nothing of a book.
+// An order's fee: a flat part, and a rate in ten-thousandths of its amount; and which amount makes a total. It knows nothing of a book.
+mod refusals;
+pub mod total;
+
 use money::Amount;
 use money::Fee;
 ghost use mathlib.Core.Path.{_≡_};
