@@ -47,7 +47,8 @@
  * Not replayed comes from buntingraft_replay alone.
  *
  * Questions are asked in the order in which they stand below. The numbers of an intake and those of the other calls are two
- * sets: 10, 11, 13, 14, 16, 17, 19, 20, 22 and 23 are in both, and mean different things.
+ * sets: 10, 11, 13, 14, 16, 17, 19, 20, 22 and 23 are in both, and mean different things. 905 and 907 are in both too, and ask
+ * both times whether flat parts and rates are within their ranges.
  */
 #ifndef BUNTINGRAFT_H
 #define BUNTINGRAFT_H
@@ -364,6 +365,19 @@ struct buntingraft_reply buntingraft_write_ope(const uint8_t *book, size_t book_
  *    30  Is the output long enough?
  */
 struct buntingraft_reply buntingraft_write_money(uint64_t grosze, uint8_t *output, size_t output_length);
+
+/*
+ * Finds the order amount that makes a total: `total` is the amount and its fee together, in grosze, where a fee has the flat
+ * part `flat` and the rate `rate`. Amounts are 1 to 999,999,999, and one whose fee is above 999,999,999 makes no total. No
+ * second amount makes the total that one makes. A total is what a payer spends in all: it is of neither money, and may be any
+ * number. No book has a part in this.
+ *
+ * Done: the amount, or 0 where no amount makes the total, which is no refusal; 0.
+ *
+ *   907  Is the rate at most 10,000?
+ *   905  Is the flat part at most 999,999,999?
+ */
+struct buntingraft_reply buntingraft_amount_for(uint64_t flat, uint64_t rate, uint64_t total);
 
 /* The most bytes that a stored book takes: 24,898. */
 uint64_t buntingraft_stored_bytes(void);

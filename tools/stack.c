@@ -135,6 +135,7 @@ static void write_ope(void) {
     reply = buntingraft_write_ope(BOOK, ID, BYTES("PP0000000003"), 20201007131500, codes, 10, output, sizeof output);
 }
 static void write_money(void) { reply = buntingraft_write_money(UINT64_MAX, output, sizeof output); }
+static void amount_for(void) { reply = buntingraft_amount_for(0, 10000, 1999999998); }
 static void stored_bytes(void) { reply.first = buntingraft_stored_bytes(); }
 static void store(void) { reply = buntingraft_store(BOOK, stored, sizeof stored); }
 static void load(void) { reply = buntingraft_load(BOOK, stored, stored_length); }
@@ -211,6 +212,7 @@ static void on_one_shipment(void) {
     expect("intake of them again", BUNTINGRAFT_REFUSED, 101, intake);
     expect("write_rkf", BUNTINGRAFT_DONE, 64, write_rkf);
     expect("write_money", BUNTINGRAFT_DONE, 21, write_money);
+    expect("amount_for", BUNTINGRAFT_DONE, 999999999, amount_for);
     expect("write_ope of 204 orders", BUNTINGRAFT_DONE, OPE_LENGTH, write_ope);
     amount = 100 * ORDERS + 1;
     expect("transfer of K", BUNTINGRAFT_DONE, 0, transfer_amounts);

@@ -1,9 +1,12 @@
 -- What the exports ensure: the reply is the call's answer in three numbers (`replyOf`), and the memory is as the call's own promise has it (`Does`).
--- `Plays` says both of a call; making an empty book, a return, a sheet, what is written and loading have a record here.
+-- `Plays` says both of a call; making an empty book, a return, a sheet, what is written and loading have a record here, and calls without a book the
+-- reply to what they answer.
 use mathlib.Core.Path.{_≡_}
 use mathlib.Core.Bool.{true, false}
 use mathlib.Core.List.{List}
 use Prim.Native.Nat.{ℕ}
+use Rattle.fee.specs.declared.total.AmountFound.{AmountFound}
+use Rattle.fee.specs.declared.total.AmountFound.the-variants as found
 use Rattle.epe.specs.declared.ident.Ident.{Ident}
 use Rattle.model.specs.Calls.{Return, On, Answer}
 use Rattle.memory.specs.Read.{readBook}
@@ -63,3 +66,9 @@ pub record TellsLoading (before stored : List ℕ) (reply : Reply) (after : List
   pub answer : Loading
   pub loads : Loads before stored answer after
   pub is-reply : reply ≡ replyToLoading answer
+
+-- The amount that makes a total, 0 where there is none, or a refusal.
+unfoldable pub replyToTotal : AmountFound → Reply
+replyToTotal (found.Is amount) = doneWith (amount .0) 0
+replyToTotal found.Not = doneWith 0 0
+replyToTotal (found.Refused number) = refusedWith number

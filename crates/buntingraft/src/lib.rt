@@ -8,6 +8,8 @@ use book::reply::refused;
 use book::reply::tell_completion;
 use epe::ident::ident_of;
 use epe::profile::Profile;
+use fee::total::AmountFound;
+use fee::total::amount_for;
 use memory::SIZE;
 use report::ope::write_ope;
 use report::rkf::write_rkf;
@@ -22,6 +24,7 @@ use write::Writing;
 use write::grosze::write_money;
 ghost use mathlib.Core.Path.{_≡_};
 ghost use mathlib.Core.List.{[]};
+ghost use Rattle.fee.specs.Total.{amountFor};
 ghost use Rattle.epe.specs.Ident.{identOf};
 ghost use Rattle.model.specs.Calls.{GoAhead, Pair, Close, OnOrder, Intake, Transfer, On};
 ghost use Rattle.model.specs.declared.Deed.the-variants.{Post, Pay, MarkUndelivered, Withdraw};
@@ -33,7 +36,7 @@ ghost use Rattle.write.specs.Written.{writtenAfter};
 ghost use Rattle.report.specs.Rkf.{rkfWritten};
 ghost use Rattle.report.specs.Ope.{opeWritten};
 ghost use Rattle.store.specs.Stored.{mostStored, storedInto};
-ghost use Rattle.buntingraft.specs.Exports.{replyToSheet, Makes, Returns, Sheets, replyToWriting, TellsWriting, replyToLoading, TellsLoading};
+ghost use Rattle.buntingraft.specs.Exports.{replyToSheet, Makes, Returns, Sheets, replyToWriting, TellsWriting, replyToLoading, TellsLoading, replyToTotal};
 
 // How many bytes a book takes.
 #[no_mangle]
@@ -176,6 +179,14 @@ pub extern "C" fn buntingraft_write_money(grosze: u64, output: &mut [u8]) -> Rep
     tell_writing(write_money(grosze, output))
 }
 
+// Finds the amount that makes a total.
+#[no_mangle]
+pub extern "C" fn buntingraft_amount_for(flat: u64, rate: u64, total: u64) -> Reply
+    ensures { λ r. ⌜ r ≡ replyToTotal (amountFor flat rate total) ⌝ }
+{
+    tell_total(amount_for(flat, rate, total))
+}
+
 // How many bytes a stored book takes at most.
 #[no_mangle]
 pub extern "C" fn buntingraft_stored_bytes() -> u64
@@ -198,6 +209,17 @@ pub extern "C" fn buntingraft_load(book: &mut [u8], stored: &[u8]) -> Reply
     ensures { λ r. ⌜ TellsLoading (now (book .entry)) (now (stored .entry)) r (now (book .exit)) ⌝ }
 {
     tell_loading(load(book, stored))
+}
+
+// Which amount makes a total, in three numbers.
+fn tell_total(found: AmountFound) -> Reply
+    ensures { λ r. ⌜ r ≡ replyToTotal found ⌝ }
+{
+    match found {
+        AmountFound::Is(amount) => done(amount.0, 0),
+        AmountFound::Not => done(0, 0),
+        AmountFound::Refused(number) => refused(number),
+    }
 }
 
 // What loading says, in three numbers.
