@@ -163,6 +163,7 @@ mod sheet;
 mod spelling;
 mod store;
 mod sys;
+mod total;
 
 pub use answer::{Accepted, Pairing, Returned};
 pub use book::Book;
@@ -174,6 +175,7 @@ pub use report::{write_rkf, write_rkf_into};
 pub use sheet::Sheet;
 pub use spelling::{write_money, write_money_into};
 pub use sys::{Profile, Reply, SheetRow, Totals};
+pub use total::amount_for;
 
 /// How many bytes a book takes.
 pub const BOOK_BYTES: usize = 24_704;

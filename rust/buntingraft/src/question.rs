@@ -36,6 +36,8 @@ pub enum Call {
     WriteOpe,
     /// Money is written as text.
     WriteMoney,
+    /// The amount that makes a total is found.
+    AmountFor,
     /// A book is stored.
     Store,
     /// A stored book is loaded.
@@ -53,7 +55,7 @@ pub struct Question {
 
 impl Call {
     /// Every call.
-    pub const ALL: [Call; 17] = [
+    pub const ALL: [Call; 18] = [
         Call::MakeEmpty,
         Call::Intake,
         Call::Transfer,
@@ -69,6 +71,7 @@ impl Call {
         Call::WriteRkf,
         Call::WriteOpe,
         Call::WriteMoney,
+        Call::AmountFor,
         Call::Store,
         Call::Load,
     ];
@@ -89,6 +92,7 @@ impl Call {
             Call::WriteRkf => WRITE_RKF,
             Call::WriteOpe => WRITE_OPE,
             Call::WriteMoney => WRITE_MONEY,
+            Call::AmountFor => AMOUNT_FOR,
             Call::Store => STORE,
             Call::Load => LOAD,
         }
@@ -113,6 +117,7 @@ impl fmt::Display for Call {
             Call::WriteRkf => "write RKF",
             Call::WriteOpe => "write OPE",
             Call::WriteMoney => "write money",
+            Call::AmountFor => "amount for",
             Call::Store => "store",
             Call::Load => "load",
         })
@@ -287,6 +292,11 @@ const WRITE_OPE: &[Question] = &[
 ];
 
 const WRITE_MONEY: &[Question] = &[LONG_ENOUGH];
+
+const AMOUNT_FOR: &[Question] = &[
+    ask(907, "Is the rate at most 10,000?"),
+    ask(905, "Is the flat part at most 999,999,999?"),
+];
 
 const STORE: &[Question] = &[SOUND, LONG_ENOUGH];
 

@@ -233,6 +233,8 @@ unsafe extern "C" {
         output_length: usize,
     ) -> Reply;
 
+    pub(crate) safe fn buntingraft_amount_for(flat: u64, rate: u64, total: u64) -> Reply;
+
     pub(crate) safe fn buntingraft_stored_bytes() -> usize;
 
     pub(crate) fn buntingraft_store(

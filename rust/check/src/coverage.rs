@@ -1,6 +1,7 @@
 //! What was covered: how often each call gave each answer. The numbers expected
 //! are the questions of the bindings' tables.
 
+use crate::amounts::Found;
 use crate::archive::kind;
 use crate::naming::has_long_date;
 use crate::output::Written;
@@ -53,6 +54,8 @@ pub struct Coverage {
     returns: BTreeMap<(u64, u64), u64>,
     faults: [u64; 11],
     fees: [u64; FEES.len()],
+    amounts_found: u64,
+    amounts_none: u64,
     reported: Reported,
     replayed: u64,
     not_replayed: [u64; 3],
@@ -109,11 +112,7 @@ impl Coverage {
 
     /// Counts a sheet.
     pub fn note_sheet(&mut self, taken: &Taken) {
-        let answer = match taken {
-            Ok(_) => Answer::Done,
-            Err(number) => Answer::Refused(*number),
-        };
-        self.note_answer(Call::Sheet, &answer);
+        self.note_result(Call::Sheet, taken);
     }
 
     /// Counts a report, an OPE of this book; of one that was written also what
@@ -127,7 +126,22 @@ impl Coverage {
 
     /// Counts what a kind of writer answered.
     pub fn note_written(&mut self, call: Call, written: &Written) {
-        let answer = match written {
+        self.note_result(call, written);
+    }
+
+    /// Counts an amount that was asked for, and apart whether there is one.
+    pub fn note_amount(&mut self, found: &Found) {
+        self.note_result(Call::AmountFor, found);
+        match found {
+            Ok(Some(_)) => self.amounts_found += 1,
+            Ok(None) => self.amounts_none += 1,
+            Err(_) => {}
+        }
+    }
+
+    /// Counts what a kind of call was done with, or the number of its refusal.
+    fn note_result<T>(&mut self, call: Call, result: &Result<T, u32>) {
+        let answer = match result {
             Ok(_) => Answer::Done,
             Err(number) => Answer::Refused(*number),
         };
@@ -213,11 +227,19 @@ impl Coverage {
         for ((what, _), _) in FEES.iter().zip(self.fees).filter(|(_, count)| *count == 0) {
             missing.push(format!("fee {what}"));
         }
+        for (what, _) in self.amounts().iter().filter(|(_, count)| *count == 0) {
+            missing.push(format!("amount {what}"));
+        }
         missing.extend(self.reported.missing());
         for reason in (1..=3).filter(|reason| self.not_replayed[reason - 1] == 0) {
             missing.push(format!("journal not replayed for {reason}"));
         }
         missing
+    }
+
+    /// How often there was an amount that makes a total, and how often none.
+    fn amounts(&self) -> [(&'static str, u64); 2] {
+        [("Found", self.amounts_found), ("None", self.amounts_none)]
     }
 
     /// The rows below those of the calls: what was counted apart.
@@ -236,6 +258,8 @@ impl Coverage {
         let faults = faults.map(|(fault, count)| format!("{fault}: {count}"));
         let fees = FEES.iter().zip(self.fees);
         let fees = fees.map(|((what, _), count)| format!("{what}: {count}"));
+        let amounts = self.amounts().into_iter();
+        let amounts = amounts.map(|(what, count)| format!("{what}: {count}"));
         let [subjects, faults_reported] = self.reported.cells();
         let reasons = self.not_replayed.iter().zip(1..);
         let reasons = reasons.map(|(count, reason)| format!("not {reason}: {count}"));
@@ -246,6 +270,7 @@ impl Coverage {
             ("returns done", returns.collect()),
             ("faults", faults.collect()),
             ("fees", fees.collect()),
+            ("amounts", amounts.collect()),
             ("reports written", subjects),
             ("faults in an OPE", faults_reported),
             ("journals", replayed.chain(reasons).collect()),
@@ -277,12 +302,12 @@ impl fmt::Display for Coverage {
         let of = |kind| self.calls(Some(kind));
         let (files, sheets) = (of(Call::Intake), of(Call::Sheet));
         let reports = of(Call::WriteRkf) + of(Call::WriteOpe);
-        let texts = of(Call::WriteMoney);
+        let (texts, amounts) = (of(Call::WriteMoney), of(Call::AmountFor));
         let (stores, loads) = (of(Call::Store), of(Call::Load));
         writeln!(
             f,
             "{calls} calls, {files} of them files, {sheets} sheets, {reports} reports, \
-             {texts} texts of money, {stores} stores, {loads} loads"
+             {texts} texts of money, {amounts} amounts for a total, {stores} stores, {loads} loads"
         )?;
         writeln!(f, "{} random lists, {} probes", self.lists, self.probes)?;
         writeln!(f, "{} pieces of memory that no calls made", self.memories)?;

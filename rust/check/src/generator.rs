@@ -2,6 +2,7 @@
 //! (money near what is missing, deeds that an order's state takes, returns,
 //! late transfers); the others are anything at all.
 
+use crate::amounts::{self, Asked};
 use crate::draft::Draft;
 use crate::lendings;
 use crate::naming::{dated_title, long_title, nearly_long_dates, position_named, title, MONEYS};
@@ -29,6 +30,7 @@ pub struct Generator {
     numbers: Numbers,
     sheet_numbers: Numbers,
     report_numbers: Numbers,
+    amount_numbers: Numbers,
     identifiers: Vec<String>,
     most_orders: usize,
     /// How many calls the list has.
@@ -57,6 +59,7 @@ impl Generator {
             numbers,
             sheet_numbers: Numbers::of(!seed, list),
             report_numbers: Numbers::of(seed.rotate_left(16), list),
+            amount_numbers: Numbers::of(seed.rotate_left(24), list),
             identifiers,
             most_orders,
             calls,
@@ -117,6 +120,11 @@ impl Generator {
             let length = reports::some_length(&report, book, numbers);
             (report, length)
         })
+    }
+
+    /// The amount that is asked for: that of an order of this book, by its total.
+    pub fn amount(&mut self, book: &Book) -> Option<(Asked, u64)> {
+        amounts::of_an_order(book, &mut self.amount_numbers)
     }
 
     /// A good file, most often with an identifier that is not in the book yet.

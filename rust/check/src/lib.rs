@@ -7,12 +7,14 @@
 //! - [`output`]: what both write into a lent output.
 //! - [`report`], [`reading`], [`reports`], [`values`]: the report files of both,
 //!   how they are read back, and which are asked for with what values.
+//! - [`amounts`]: the amounts that make a total with their fees.
 //! - [`storing`]: stored books with bytes changed, and what they are loaded into.
 //! - [`journal`], [`replay`]: a list of calls as bytes, and its replay.
 //! - [`run`], [`ledger`]: a list of calls under way, and demand 3 over it.
 //! - [`directed`], [`memory`], [`lists`]: the cases, memory and lists tried.
 //! - [`coverage`], [`reported`]: what of it all was reached.
 
+pub mod amounts;
 pub mod archive;
 pub mod breaks;
 pub mod calls;
@@ -51,8 +53,8 @@ const _: () = assert!(layout::LENGTH == buntingraft::BOOK_BYTES);
 const _: () = assert!(layout::LENGTH == reference::BOOK_BYTES);
 const _: () = assert!(reference::MOST_SHIPMENTS == buntingraft::MOST_SHIPMENTS);
 
-/// Runs the directed cases, the memory and so many random lists, prints what
-/// they covered, and says whether the directed cases and the memory alone
+/// Runs the directed cases, the memory, so many random lists and the amounts that
+/// the seed draws, prints what they covered, and says whether the directed cases and the memory alone
 /// reached every answer that there is. A difference ends the program.
 pub fn check(seed: u64, lists: u64) -> bool {
     let mut coverage = Coverage::default();
@@ -60,6 +62,7 @@ pub fn check(seed: u64, lists: u64) -> bool {
     directed::check(&mut coverage);
     memory::check(seed, &mut coverage);
     let missing = coverage.missing();
+    amounts::check(seed, &mut coverage);
     lists::check(seed, 0..lists, &mut coverage);
     print!("{coverage}");
     println!("no difference");

@@ -1,7 +1,7 @@
 //! Random lists of calls, each on a book that starts empty, with both books
-//! compared and probed after every call, reports written of them, the book stored
-//! and now and then moved to other memory by that, and the whole list replayed at
-//! its end.
+//! compared and probed after every call, reports written of them, the amount of an
+//! order found by its total, the book stored and now and then moved to other memory
+//! by that, and the whole list replayed at its end.
 
 use crate::coverage::Coverage;
 use crate::generator::Generator;
@@ -29,6 +29,9 @@ fn check_list(seed: u64, list: u64, coverage: &mut Coverage) {
         let _ = run.sheet(&generator.lending(run.book()));
         for (report, length) in generator.reports(run.book()) {
             let _ = run.report(&report, length);
+        }
+        if let Some((asked, amount)) = generator.amount(run.book()) {
+            run.expect_amount(asked, Ok(Some(amount)));
         }
         run.probe(&generator.probes(&call, run.book()));
         storage.follow(&mut run);

@@ -2,6 +2,7 @@
 //! them. A difference ends the program, with the list's title, the calls so far
 //! and what differs.
 
+use crate::amounts::{Asked, Found};
 use crate::coverage::Coverage;
 use crate::layout::LENGTH;
 use crate::ledger::Ledger;
@@ -131,6 +132,17 @@ impl<'a> Run<'a> {
             let difference = format!("both answer {answer:?}, not {expected:?}");
             self.differs(&report.told(length), &difference);
         }
+    }
+
+    /// Asks for the amount that makes a total, whose answer is known from the
+    /// book.
+    pub fn expect_amount(&mut self, asked: Asked, expected: Found) {
+        let difference = match asked.compared() {
+            Ok(found) if found == expected => return self.coverage.note_amount(&found),
+            Ok(found) => format!("both answer {found:?}, not {expected:?}"),
+            Err(difference) => difference,
+        };
+        self.differs(&asked.to_string(), &difference);
     }
 
     /// Stores the book as it stands into an output of so many bytes, and gives
@@ -280,8 +292,8 @@ impl<'a> Run<'a> {
         self.coverage.probes += calls.len() as u64;
     }
 
-    /// Ends the program with the difference that a call, a sheet, a report or
-    /// stored bytes showed.
+    /// Ends the program with the difference that a call, a sheet, a report, an
+    /// amount or stored bytes showed.
     fn differs(&self, what: &str, difference: &str) -> ! {
         let mut so_far = String::new();
         for (place, (call, answer)) in self.made.iter().enumerate() {

@@ -1,7 +1,7 @@
 //! A plain reference implementation of the settlement book for EPE shipments.
 //!
 //! Written from document 01 (the law), document 02 (its changes, of which A1 to
-//! A5 are in), document 00 (the demands), the decided readings and source
+//! A6 are in), document 00 (the demands), the decided readings and source
 //! document 003 sections 3, 5.1, 5.3.3.1, 5.4.3.1 and 6; from nothing else. It is
 //! meant to be read beside document 01: every question carries that document's
 //! words and number, in that document's order. Words of document 02 are marked as
@@ -11,6 +11,7 @@
 //! - [`text`]: digits, letters, amounts, sums, identifiers.
 //! - [`name`]: the file's name and the transfer's title.
 //! - [`fee`]: an order's fee and the division's remainder.
+//! - [`total`]: the amount that makes a total with its fee.
 //! - [`file`](mod@file): the profile and the questions a file is asked.
 //! - [`book`]: the book as plain values, its calls and their answers.
 //! - [`sheet`]: the balance sheet of a book.
@@ -27,6 +28,7 @@ pub mod report;
 pub mod sheet;
 pub mod store;
 pub mod text;
+pub mod total;
 
 pub use book::{Answer, Book, Call, Money, Route, Row, Shipment, Stage, State, Waits};
 pub use fee::{Fee, Tariff};
@@ -35,6 +37,7 @@ pub use name::{read_name, read_title, Name};
 pub use report::{rkf, rkf_into};
 pub use sheet::{SheetRow, Sums};
 pub use text::{write_money, write_money_into};
+pub use total::amount_for;
 
 /// "An order's amount is 1 to 999,999,999"; a fee is 0 to the same.
 pub const MOST_AMOUNT: u64 = 999_999_999;

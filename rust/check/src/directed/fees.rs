@@ -25,7 +25,7 @@ pub fn check(coverage: &mut Coverage) {
 }
 
 /// Rate, amount, the rated part of the fee, and what the division leaves.
-const WORKED: [(u64, u64, u64, u64); 20] = [
+pub const WORKED: [(u64, u64, u64, u64); 20] = [
     (0, 1, 0, 0),
     (0, 9_999, 0, 0),
     (0, 10_000, 0, 0),

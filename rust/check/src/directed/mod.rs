@@ -1,8 +1,9 @@
 //! Cases taken from the papers one by one: every question and every two, every
 //! boundary, fees with a rate, every spelling of money, every refusal, long
-//! titles, full books, sheets, report files, money as text, stored books,
-//! journals, ZS1 and the field engineer's card.
+//! titles, full books, sheets, report files, money as text, amounts for a total,
+//! stored books, journals, ZS1 and the field engineer's card.
 
+mod amounts;
 mod bytes;
 mod card;
 mod dates;
@@ -37,6 +38,7 @@ pub fn check(coverage: &mut Coverage) {
     rkf::check(coverage);
     ope::check(coverage);
     money::check(coverage);
+    amounts::check(coverage);
     store::check(coverage);
     replay::check(coverage);
     card::check(coverage);

@@ -1,5 +1,6 @@
 //! The papers' own examples, questions and boundaries, asked of the reference.
 
+mod amounts;
 mod boundaries;
 mod card;
 mod fees;
