@@ -1,14 +1,14 @@
 -- The division holds of an order's fee and remainder, and of no others; and the form in which code asks for it.
 -- Assumes nothing.
-use mathlib.Core.Path.{_≡_, refl, sym, _∙_, ap}
-use mathlib.Core.Bool.{Bool, true, false, _&&_}
-use Prim.Native.Nat.{ℕ, _+_, _*_, _-_, _/_, _%_, _≤_, _<_}
+use mathlib.Core.Path.{_≡_, sym, _∙_, ap}
+use mathlib.Core.Bool.{true, _&&_}
+use Prim.Native.Nat.{ℕ, _+_, _*_, _-_, _≤_, _<_}
 use native.Mathlib.Omega.{arith}
 use borrow.Author.Tests.{leb-true, ltb-true, eqb-true, le-leb, lt-ltb, eq-eqb}
 use lib.Bits.{bitXor, xor-add-and, xor-self, and-le-l, and-le-r}
 use lib.Dec.{leb, ltb, eqb}
-use Rattle.text.proofs.Branches.{and-left, and-right, and-true, both-yes, both-ways}
-use Rattle.fee.specs.Fee.{rateCap, ratedPart, remainderOf, feeOf, DivisionHolds, divides, DividesAlone}
+use Rattle.text.proofs.Branches.{and-left, and-right, both-yes, both-ways}
+use Rattle.fee.specs.Fee.{rateCap, remainderOf, feeOf, DivisionHolds, divides, DividesAlone}
 use Rattle.fee.specs.Inner.Difference.{differenceIn, DifferenceTells}
 use Rattle.fee.specs.declared.Terms.{Terms}
 

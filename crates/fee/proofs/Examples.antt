@@ -1,8 +1,8 @@
 -- Worked examples of the definitions, each computed.
 -- Assumes nothing.
 use mathlib.Core.Path.{_≡_, refl}
-use mathlib.Core.Bool.{Bool, true, false}
-use mathlib.Core.List.{List, [], _∷_, map}
+use mathlib.Core.Bool.{true, false}
+use mathlib.Core.List.{[], _∷_, map}
 use Prim.Native.Nat.{ℕ, _+_, _*_, _-_}
 use Rattle.money.specs.Money.{amount, fee}
 use Rattle.fee.specs.Fee.{rate, isRate, chargeOf, chargedBy, divides}

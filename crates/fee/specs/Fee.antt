@@ -1,7 +1,6 @@
 -- "A new contract sets the fee as a flat part plus a rate, 0 to 10,000, in ten-thousandths." (document 02, A5)
 use mathlib.Core.Path.{_≡_}
 use mathlib.Core.Bool.{Bool, true, false, cond, _&&_}
-use mathlib.Core.List.{List, [], _∷_}
 use Prim.Native.Nat.{ℕ, _+_, _*_, _-_, _/_, _%_, _≤_, _<_}
 use lib.Dec.{leb, ltb, eqb}
 use Rattle.money.specs.Money.{fee, isOrderFee, WithinOrder}

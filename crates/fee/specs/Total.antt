@@ -25,10 +25,11 @@ candidate terms total = (rateCap * (total - terms .flat .0) + (rateCap + terms .
 unfoldable pub foundFor : Terms → ℕ → AmountFound
 foundFor terms total = cond (makes terms total (candidate terms total)) (Is (amount (candidate terms total))) Not
 
--- "907 comes first here, then 905 for the flat part."
+-- "Given flat part, rate and total ..": two plain numbers as terms.
 abbrev pub termsOf : ℕ → ℕ → Terms
 termsOf flat ofAmount = record { flat = fee flat; rate = rate ofAmount }
 
+-- "907 comes first here, then 905 for the flat part."
 unfoldable pub amountFor : ℕ → ℕ → ℕ → AmountFound
 amountFor flat ofAmount total = cond (isRate ofAmount) (cond (isOrderFee flat) (foundFor (termsOf flat ofAmount) total) (Refused 905)) (Refused 907)
 

@@ -2,7 +2,7 @@
 use mathlib.Core.Path.{refl}
 use native.Mathlib.Nat.{mul-le-mul}
 use native.Mathlib.Omega.{arith}
-use Prim.Native.Nat.{ℕ, _≤_}
+use Prim.Native.Nat.{_≤_}
 use Rattle.fee.specs.Inner.Difference.{differenceIn}
 use borrow.Author.Needs.{needs}
 use Rattle.fee.proofs.difference.Statement.{statement}

@@ -1,5 +1,4 @@
 -- `fee::is_charged` answers by the variant.
-use mathlib.Core.Path.{refl}
 use Rattle.fee.specs.Fee.{isCharged}
 use borrow.Author.Needs.{needs}
 use Rattle.fee.proofs.is_charged.Statement.{statement}
