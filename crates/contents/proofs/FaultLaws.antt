@@ -1,11 +1,11 @@
 -- Laws of an order's faults: a field's size, spaces from a field on, and the greatest number of a fault.
 -- Assumes nothing.
-use mathlib.Core.Path.{_≡_, refl}
+use mathlib.Core.Path.{_≡_, refl, sym}
 use mathlib.Core.Bool.{Bool, true, false, cond, _&&_}
 use mathlib.Core.List.{List}
 use Prim.Native.Nat.{ℕ, zero, suc, _+_, _-_, _<_, _≤_}
 use native.Mathlib.Omega.{arith}
-use borrow.Author.Tests.{leb-true, le-leb}
+use borrow.Author.Tests.{leb-true, le-leb, lt-leb}
 use lib.Dec.{leb, lit≤}
 use lib.ListN.{length, take, List·getD-eq-default}
 use Rattle.text.specs.Utf8.{codePoints}
@@ -14,6 +14,8 @@ use Rattle.text.proofs.Utf8Counting.{first-counts, counts-at-most}
 use Rattle.epe.specs.File.{field}
 use Rattle.epe.specs.Questions.{asked}
 use Rattle.contents.specs.Faults.{sized, spaced, unspaced, faultQuestions, faultOf}
+use Rattle.contents.specs.Inner.Parts.{fieldOfTwo}
+use Rattle.contents.specs.declared.extra.ExtraSaid.{ExtraSaid}
 
 -- what holds of the first byte's count and of the number of bytes holds of the count between them
 pub sized-by-bytes : (low high : ℕ) (s : List ℕ) → (leb low (codePoints (take 1 s)) && leb (length s) high) ≡ true → sized low high s ≡ true
@@ -35,21 +37,45 @@ none-unspaced s h =
     )
 
 -- fields from one on, of which n are still to look at
-pub unspaced-on : (n from : ℕ) (line : List ℕ) → 0 < n → spaced (field from line) ≡ false
-    → unspaced n from line ≡ unspaced (n - 1) (from + 1) line
+pub unspaced-on : (n from : ℕ) (its : ℕ → List ℕ) → 0 < n → spaced (its from) ≡ false
+    → unspaced n from its ≡ unspaced (n - 1) (from + 1) its
 unfolding unspaced
-unspaced-on zero from line h e = absurd (omega arith)
-unspaced-on (suc n) from line h e = let d : suc n - 1 ≡ n = omega arith in rw (e, d)
+unspaced-on zero from its h e = absurd (omega arith)
+unspaced-on (suc n) from its h e = let d : suc n - 1 ≡ n = omega arith in rw (e, d)
 
-pub unspaced-not : (n from : ℕ) (line : List ℕ) → 0 < n → spaced (field from line) ≡ true → unspaced n from line ≡ false
+pub unspaced-not : (n from : ℕ) (its : ℕ → List ℕ) → 0 < n → spaced (its from) ≡ true → unspaced n from its ≡ false
 unfolding unspaced
-unspaced-not zero from line h e = absurd (omega arith)
-unspaced-not (suc n) from line h e = rw e
+unspaced-not zero from its h e = absurd (omega arith)
+unspaced-not (suc n) from its h e = rw e
 
-pub unspaced-end : (n from : ℕ) (line : List ℕ) → n ≤ 0 → unspaced n from line ≡ true
+pub unspaced-end : (n from : ℕ) (its : ℕ → List ℕ) → n ≤ 0 → unspaced n from its ≡ true
 unfolding unspaced
-unspaced-end zero from line h = refl
-unspaced-end (suc n) from line h = absurd (omega arith)
+unspaced-end zero from its h = refl
+unspaced-end (suc n) from its h = absurd (omega arith)
+
+-- the same fields in a text that begins some fields later
+pub unspaced-later : (n from shift : ℕ) (its others : ℕ → List ℕ) → shift ≤ from → ((k : ℕ) → from ≤ k → its k ≡ others (k - shift))
+    → unspaced n from its ≡ unspaced n (from - shift) others
+unfolding unspaced
+unspaced-later zero from shift its others h same = refl
+unspaced-later (suc n) from shift its others h same =
+    let next : from + 1 - shift ≡ from - shift + 1 = omega arith in
+    let rest = rw next at (unspaced-later n (from + 1) shift its others (omega arith) (λ k l. same k (omega arith))) in
+    rw (same from (omega arith), rest)
+
+-- the fields of an order in two texts, and in one that is both
+pub front-unspaced : (front back : List ℕ) (shift : ℕ) → unspaced 8 4 (λ k. field k front) ≡ unspaced 8 4 (fieldOfTwo front back shift)
+unfolding unspaced
+front-unspaced front back shift = refl
+
+pub back-unspaced : (front back : List ℕ) (shift : ℕ) → shift ≤ 11
+    → unspaced 7 (13 - shift) (λ k. field k back) ≡ unspaced 7 13 (fieldOfTwo front back shift)
+back-unspaced front back shift h =
+    sym (unspaced-later 7 13 shift (fieldOfTwo front back shift) (λ k. field k back) (omega arith) (λ k l. rw (lt-leb k 11 (omega arith))))
+
+pub whole-line : (line : List ℕ) (said : ExtraSaid) → faultQuestions (fieldOfTwo line line 0) said ≡ faultQuestions (λ n. field n line) said
+unfolding faultQuestions unspaced
+whole-line line said = refl
 
 -- A fault's number is at most that of the last question.
 pub fault-known : (line : List ℕ) → faultOf line ≤ 10

@@ -27,7 +27,7 @@ use Rattle.epe.specs.Opening.{fileQuestions, fixedQuestions, repeatedQuestions,
 use Rattle.epe.specs.declared.profile.Profile.{Profile}
 use Rattle.epe.specs.declared.verdict.Verdict.{Verdict}
 use Rattle.epe.specs.declared.verdict.Verdict.the-variants.{Passed, Refused}
-use Rattle.contents.specs.Faults.{sized, empty, placed, housed, postcode, extra, spaced, unspaced, faultQuestions, faultOf}
+use Rattle.contents.specs.Faults.{sized, empty, placed, housed, postcode, extra, spaced, saidOf, unspaced, faultQuestions, faultOf}
 use Rattle.contents.specs.Contents.{dateQuestions, statedQuestions, statedTerms, shaped, allShaped, allPriced, allCharged, total, recordQuestions, contentsQuestions, contents, orderOf, orders, faultyCount, judgedOf, linesRead, ordersRead}
 use Rattle.contents.specs.Steps.{statedIn, statedOf, recordsOf, noneKept, keptWhere, judgedRecords}
 use Rattle.contents.specs.Kept.{orderFrom, ordersIn, keptFrom}
@@ -75,7 +75,7 @@ unfolding ascii tailOctet lead2 lead3 lead4 point2 point3 point4 surrogate range
 opens = opening
 
 holdsOrders : Profile → List ℕ → Verdict
-unfolding opens starts codePoints isAmount groszeOf textOf together inWindow dayNumber daysOfYears daysOfMonths dateOf dateOfNumber dateOfDigits dateInWindow clockTime timeOfNumber timeOfDay each asFees profileFits ratesFit profileQuestions termsFor sized empty placed housed postcode extra spaced unspaced faultQuestions faultOf dateQuestions statedQuestions shaped allShaped allPriced allCharged total recordQuestions contentsQuestions contents orderOf orders faultyCount judgedOf
+unfolding opens starts codePoints isAmount groszeOf textOf together inWindow dayNumber daysOfYears daysOfMonths dateOf dateOfNumber dateOfDigits dateInWindow clockTime timeOfNumber timeOfDay each asFees profileFits ratesFit profileQuestions termsFor sized empty placed housed postcode extra spaced saidOf unspaced faultQuestions faultOf dateQuestions statedQuestions shaped allShaped allPriced allCharged total recordQuestions contentsQuestions contents orderOf orders faultyCount judgedOf
 holdsOrders = contents
 
 abbrev order : ℕ → ℕ → Order

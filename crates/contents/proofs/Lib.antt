@@ -1,8 +1,10 @@
 pub mod FaultLaws
+pub mod EarlyJudging
 pub mod TallyWalk
 pub mod TallyJudges
 pub mod TwoStepsAreContents
 pub mod AcceptedAsStated
 pub mod KeptInOrder
 pub mod RecordExamples
+pub mod AroundExamples
 pub mod FileExamples

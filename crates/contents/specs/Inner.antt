@@ -1,2 +1,3 @@
 -- What only proofs cite, and contracts of functions below the calls: a buyer need not read it.
 pub mod Tally
+pub mod Parts

@@ -1,6 +1,7 @@
 -- In the order in which to read them.
 pub mod Contents
 pub mod Faults
+pub mod Around
 pub mod Accepted
 pub mod Kept
 pub mod Steps

@@ -20,7 +20,7 @@ use Rattle.epe.specs.Profile.{each, profileFits, ratesFit, profileQuestions, te
 use Rattle.epe.specs.Name.{nameQuestions, nameOf, hasLongDate, shortTitle, titleQuestions, titleOf}
 use Rattle.epe.specs.File.{marked}
 use Rattle.epe.specs.Opening.{fileQuestions, fixedQuestions, repeatedQuestions, openingQuestions, opening}
-use Rattle.contents.specs.Faults.{sized, empty, placed, housed, postcode, extra, spaced, unspaced, faultQuestions, faultOf}
+use Rattle.contents.specs.Faults.{sized, empty, placed, housed, postcode, extra, spaced, saidOf, unspaced, faultQuestions, faultOf}
 use Rattle.contents.specs.Contents.{dateQuestions, statedQuestions, shaped, allShaped, allPriced, allCharged, total, recordQuestions, contentsQuestions, contents}
 use Rattle.contents.specs.Contents.{orderOf, orders, faultyCount}
 use Rattle.model.specs.Shipment.{need, free, held, anyFaulty}
@@ -33,7 +33,7 @@ use Rattle.model.specs.LongTitles.{LongTitles}
 
 -- names the definitions that the table computes
 unfoldable pub stepped : Book → Call → Step
-unfolding digit letter letterOrDigit lettersOrDigits same hasByte number numberAfter isNumber valueOf fields onto lines parted withoutLastEnd stray ascii tailOctet lead2 lead3 lead4 point2 point3 point4 surrogate range2 range3 range4 row2 row3 row4 width wellFormedAfter starts codePoints isAmount groszeOf textOf together real leap monthLength inWindow dayNumber daysOfYears daysOfMonths dateOf dateOfNumber dateOfDigits dateInWindow clockTime timeOfNumber timeOfDay asked isPassed identifier identOf sameIdent each profileFits ratesFit profileQuestions termsFor nameQuestions nameOf hasLongDate shortTitle titleQuestions titleOf marked fileQuestions fixedQuestions repeatedQuestions openingQuestions opening sized empty placed housed postcode extra spaced unspaced faultQuestions faultOf dateQuestions statedQuestions shaped allShaped allPriced allCharged total recordQuestions contentsQuestions contents orderOf orders faultyCount need free held anyFaulty transferred goneAhead paired closed onOrder waiting waitingOrders returnedBy surplusReturned acted sameName entered intakeQuestions takenIn transferredIn step
+unfolding digit letter letterOrDigit lettersOrDigits same hasByte number numberAfter isNumber valueOf fields onto lines parted withoutLastEnd stray ascii tailOctet lead2 lead3 lead4 point2 point3 point4 surrogate range2 range3 range4 row2 row3 row4 width wellFormedAfter starts codePoints isAmount groszeOf textOf together real leap monthLength inWindow dayNumber daysOfYears daysOfMonths dateOf dateOfNumber dateOfDigits dateInWindow clockTime timeOfNumber timeOfDay asked isPassed identifier identOf sameIdent each profileFits ratesFit profileQuestions termsFor nameQuestions nameOf hasLongDate shortTitle titleQuestions titleOf marked fileQuestions fixedQuestions repeatedQuestions openingQuestions opening sized empty placed housed postcode extra spaced saidOf unspaced faultQuestions faultOf dateQuestions statedQuestions shaped allShaped allPriced allCharged total recordQuestions contentsQuestions contents orderOf orders faultyCount need free held anyFaulty transferred goneAhead paired closed onOrder waiting waitingOrders returnedBy surplusReturned acted sameName entered intakeQuestions takenIn transferredIn step
 stepped = step
 
 computed : Table × Neighbours × LongTitles

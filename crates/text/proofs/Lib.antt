@@ -12,5 +12,7 @@ pub mod Utf8Written
 pub mod Utf8Read
 pub mod Utf8Counting
 pub mod Utf8Parts
+pub mod Utf8Joined
+pub mod FieldsJoined
 pub mod Examples
 pub mod Utf8Examples

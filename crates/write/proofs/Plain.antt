@@ -11,9 +11,9 @@ use Rattle.text.specs.Bytes.{between, digit, letter, letterOrDigit, lettersOrDi
 use Rattle.text.specs.Utf8.{ascii, wellFormed, wellFormedAfter}
 use Rattle.text.proofs.Branches.{and-left, and-right, both-yes, either-way}
 use Rattle.text.proofs.Utf8Laws.{by-ascii}
+use Rattle.text.proofs.Utf8Joined.{joined-well-formed}
 use Rattle.write.specs.Files.{isField, areFields, areWellFormed}
 use Rattle.write.specs.Spelled.{digits}
-use Rattle.write.proofs.WellFormed.{joined-well-formed}
 
 unfoldable pub isPlain : ℕ → Bool
 isPlain b = ascii b && (not (eqb b 0x7C) && (not (eqb b 0x0D) && not (eqb b 0x0A)))

@@ -1,11 +1,11 @@
 -- A file that was written is read back line by line and field by field.
 -- Assumes nothing.
 use mathlib.Core.Path.{_≡_, refl, sym, _∙_, ap}
-use mathlib.Core.Bool.{Bool, true, false, not, _||_, false≢true}
+use mathlib.Core.Bool.{true, false, not, _||_, false≢true}
 use mathlib.Core.List.{List, [], _∷_, _++_, map}
 use Prim.Native.Nat.{ℕ, suc, _+_, _-_, _<_}
 use native.Mathlib.Omega.{arith}
-use borrow.Author.Tests.{not-true, eqb-false, eq-eqb, ltb-true, ltb-false}
+use borrow.Author.Tests.{not-true, eqb-false, ltb-true, ltb-false}
 use lib.Dec.{eqb, ltb}
 use lib.ListN.{length, getD, length-append}
 use Rattle.text.specs.Bytes.{hasByte}
@@ -13,33 +13,15 @@ use Rattle.text.specs.Fields.{fields, onto}
 use Rattle.text.specs.Lines.{parted, withoutLastEnd, lines}
 use Rattle.text.specs.Utf8Parts.{partsJoined}
 use Rattle.text.proofs.Branches.{and-left, and-right, either-way}
+use Rattle.text.proofs.FieldsJoined.{neither, not-first, fields-last, fields-before}
 use Rattle.text.proofs.LineEnds.{too-short-to-end, no-lf-at-end}
 use Rattle.write.specs.Files.{line, isField, areFields, isLine, areLines, ReadsBack}
 
-neither : (t u : Bool) → (t || u) ≡ false → (t ≡ false) × (u ≡ false)
-neither true u h = absurd (false≢true (sym h))
-neither false u h = (refl, h)
-
--- a byte that stands nowhere in a text
-not-first : (b x : ℕ) (s : List ℕ) → hasByte b (x ∷ s) ≡ false → (eqb x b ≡ false) × (hasByte b s ≡ false)
-unfolding hasByte
-not-first b x s h = neither (eqb x b) (hasByte b s) h
-
+-- a byte that stands nowhere in two texts
 nor-behind : (b : ℕ) (s t : List ℕ) → hasByte b s ≡ false → hasByte b t ≡ false → hasByte b (s ++ t) ≡ false
 unfolding hasByte
 nor-behind b [] t h k = k
 nor-behind b (x ∷ s) t h k = let none = neither (eqb x b) (hasByte b s) h in rw (none .0) (nor-behind b s t (none .1) k)
-
--- fields: the last one, and one before a bar
-fields-last : (b : ℕ) (s : List ℕ) → hasByte b s ≡ false → fields b s ≡ s ∷ []
-unfolding fields onto
-fields-last b [] h = refl
-fields-last b (x ∷ s) h = let none = not-first b x s h in rw (none .0, fields-last b s (none .1))
-
-fields-before : (b : ℕ) (s t : List ℕ) → hasByte b s ≡ false → fields b (s ++ (b ∷ t)) ≡ s ∷ fields b t
-unfolding fields onto
-fields-before b [] t h = rw (eq-eqb b b refl)
-fields-before b (x ∷ s) t h = let none = not-first b x s h in rw (none .0, fields-before b s t (none .1))
 
 -- lines: the last one, and one before a CR LF
 lines-last : (s : List ℕ) → hasByte 0x0D s ≡ false → parted s ≡ s ∷ []

@@ -1,56 +1,27 @@
--- `contents::record::fault` is `faultOf`: the questions in order.
+-- `contents::record::fault` is `faultOf`: the line is asked for both of its parts.
+use mathlib.Core.Path.{_∙_, ap}
+use Rattle.contents.specs.Faults.{faultOf, firstFault}
+use Rattle.contents.proofs.FaultLaws.{whole-line}
 use borrow.Author.Needs.{needs}
-use Rattle.contents.specs.Faults.{faultQuestions, faultOf}
-use Rattle.epe.proofs.Asking.{asking}
 use Rattle.contents.proofs.record.fault.Statement.{statement}
 use Rattle.contents.proofs.record.fault.Tie as tie
 
-has-size-requires : tie.Need-has-size-requires
-has-size-requires c κs = search needs
+field-of-requires : tie.Need-field-of-requires
+field-of-requires c κs = search needs
+
+judge-extra-requires : tie.Need-judge-extra-requires
+judge-extra-requires c κs = search needs
+
+first-fault-requires : tie.Need-first-fault-requires
+first-fault-requires c κs = search needs
 
 returns : tie.Need-returns
-unfolding faultQuestions faultOf
-returns c = search asking depth 24
-
-has-size-requires-2 : tie.Need-has-size-requires-2
-has-size-requires-2 c κs = search needs
-
-returns-2 : tie.Need-returns-2
-unfolding faultQuestions faultOf
-returns-2 c = search asking depth 24
-
-has-size-requires-3 : tie.Need-has-size-requires-3
-has-size-requires-3 c κs = search needs
-
-returns-3 : tie.Need-returns-3
-unfolding faultQuestions faultOf
-returns-3 c = search asking depth 24
-
-has-postcode-requires : tie.Need-has-postcode-requires
-has-postcode-requires c κs = search needs
-
-returns-4 : tie.Need-returns-4
-unfolding faultQuestions faultOf
-returns-4 c = search asking depth 24
-
-address-fault-requires : tie.Need-address-fault-requires
-address-fault-requires c κs = search needs
-
-returns-5 : tie.Need-returns-5
-unfolding faultQuestions faultOf
-returns-5 c = search asking depth 24
+unfolding faultOf
+returns c =
+    let judged = c .before in
+    let found = judged .before in
+    (rw (judged .judge-extra .ensures, found .field-of .ensures) at (c .first-fault .ensures)) ∙ ap firstFault (whole-line _ _)
 
 pub fault-spec : {M : Type 1} → statement M
 fault-spec =
-    tie.close
-    (tie.spec
-    has-size-requires
-    returns
-    has-size-requires-2
-    returns-2
-    has-size-requires-3
-    returns-3
-    has-postcode-requires
-    returns-4
-    address-fault-requires
-    returns-5)
+    tie.close (tie.spec field-of-requires judge-extra-requires first-fault-requires returns)
