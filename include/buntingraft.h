@@ -26,7 +26,7 @@
  *          made by buntingraft_make_empty. Such memory is of one version of the library: another may lay a book out
  *          otherwise. Only stored bytes (buntingraft_store) travel between versions, and only they are to be kept in files:
  *          a version that has another form of them refuses them with 32.
- *   name, file, title, id, own, source, stored, journal
+ *   name, file, title, id, own, source, extra, before, after, stored, journal
  *          Bytes that are only read, with no terminating zero.
  *   output Bytes that a report, money or a stored book is written into.
  *   codes  Numbers of 64 bits that are only read.
@@ -47,8 +47,8 @@
  * Not replayed comes from buntingraft_replay alone.
  *
  * Questions are asked in the order in which they stand below. The numbers of an intake and those of the other calls are two
- * sets: 10, 11, 13, 14, 16, 17, 19, 20, 22 and 23 are in both, and mean different things. 905 and 907 are in both too, and ask
- * both times whether flat parts and rates are within their ranges.
+ * sets: 10, 11, 13, 14, 16, 17, 19, 20, 22, 23 and 901 are in both, and mean different things. 905 and 907 are in both too, and
+ * ask both times whether flat parts and rates are within their ranges.
  */
 #ifndef BUNTINGRAFT_H
 #define BUNTINGRAFT_H
@@ -378,6 +378,33 @@ struct buntingraft_reply buntingraft_write_money(uint64_t grosze, uint8_t *outpu
  *   905  Is the flat part at most 999,999,999?
  */
 struct buntingraft_reply buntingraft_amount_for(uint64_t flat, uint64_t rate, uint64_t total);
+
+/*
+ * Judges the extra address field of a record (field 12) alone, for the call below, which is then not given the field. `extra`
+ * is its bytes, whatever they are. No question is asked, and no book has a part in this.
+ *
+ * Done: what is said of the field, these numbers added up; 0.
+ *
+ *     1  It is empty.
+ *     2  It has fault 7 (see intake): it is not empty, and neither `PR` nor `SP_` or `PP_` with 1 to 5 digits.
+ *     4  It starts or ends with a space.
+ */
+struct buntingraft_reply buntingraft_judge_extra(const uint8_t *extra, size_t extra_length);
+
+/*
+ * Finds the fault of a record without its extra address field: `bits` is what buntingraft_judge_extra said of the field,
+ * `before` the record's bytes before it and `after` those behind it, each with the bar next to the field. The fault is the one
+ * by which an intake takes such an order in as Faulty. Each number in `bits` stands for its own part in the faults 5 to 7 and
+ * in 10, also where no field has them together, and bits above 4 say nothing. What fields 1 to 3 are is not asked, and no book
+ * has a part in this.
+ *
+ * Done: the fault, 1 to 10, or 0 where there is none; 0.
+ *
+ *   901  Is `before` eleven fields, each ended by `|`, and `after` 7 to 20, each begun by one, all well-formed UTF-8 without CR
+ *        or LF?
+ */
+struct buntingraft_reply buntingraft_judge_around(uint64_t bits, const uint8_t *before, size_t before_length,
+                                                  const uint8_t *after, size_t after_length);
 
 /* The most bytes that a stored book takes: 24,898. */
 uint64_t buntingraft_stored_bytes(void);

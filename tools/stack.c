@@ -35,6 +35,7 @@
 #define BOOK book, sizeof book
 #define ID BYTES("ZS1")
 #define NAME "EPEZZS1-201007-A-0"
+#define RECORD BYTES("2|1|1.00|Żółć|Jan|Kraków|30-001|Kraków|Długa|5||")
 
 static uint8_t *stack;
 static ucontext_t outside, inside;
@@ -55,7 +56,7 @@ static uint8_t stored[24898];
 static size_t stored_length;
 
 /* What the next call is given, and what it replied. */
-static uint64_t flat = FLAT, rate, amount, order, route, money;
+static uint64_t flat = FLAT, rate, amount, order, route, money, bits;
 static struct buntingraft_reply reply;
 
 static int calls_wrong = 0;
@@ -136,6 +137,9 @@ static void write_ope(void) {
 }
 static void write_money(void) { reply = buntingraft_write_money(UINT64_MAX, output, sizeof output); }
 static void amount_for(void) { reply = buntingraft_amount_for(0, 10000, 1999999998); }
+static void judge_extra(void) { reply = buntingraft_judge_extra(BYTES("SP_12 ")); }
+static void judge_around(void) { reply = buntingraft_judge_around(bits, RECORD, BYTES("||ZUS/1|09.2020||||")); }
+static void judge_around_a_cut(void) { reply = buntingraft_judge_around(bits, RECORD, BYTES("||ZUS/1|09.2020|||")); }
 static void stored_bytes(void) { reply.first = buntingraft_stored_bytes(); }
 static void store(void) { reply = buntingraft_store(BOOK, stored, sizeof stored); }
 static void load(void) { reply = buntingraft_load(BOOK, stored, stored_length); }
@@ -213,6 +217,12 @@ static void on_one_shipment(void) {
     expect("write_rkf", BUNTINGRAFT_DONE, 64, write_rkf);
     expect("write_money", BUNTINGRAFT_DONE, 21, write_money);
     expect("amount_for", BUNTINGRAFT_DONE, 999999999, amount_for);
+    expect("judge_extra", BUNTINGRAFT_DONE, 6, judge_extra);
+    bits = 6;
+    expect("judge_around, fault 7", BUNTINGRAFT_DONE, 7, judge_around);
+    bits = 1;
+    expect("judge_around, no fault", BUNTINGRAFT_DONE, 0, judge_around);
+    expect("judge_around, a field short", BUNTINGRAFT_REFUSED, 901, judge_around_a_cut);
     expect("write_ope of 204 orders", BUNTINGRAFT_DONE, OPE_LENGTH, write_ope);
     amount = 100 * ORDERS + 1;
     expect("transfer of K", BUNTINGRAFT_DONE, 0, transfer_amounts);

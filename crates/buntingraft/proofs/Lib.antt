@@ -1,2 +1,3 @@
 pub mod Exporting
 pub mod Reporting
+pub mod BitLaws

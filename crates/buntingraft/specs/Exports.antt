@@ -2,12 +2,16 @@
 -- `Plays` says both of a call; making an empty book, a return, a sheet, what is written and loading have a record here, and calls without a book the
 -- reply to what they answer.
 use mathlib.Core.Path.{_≡_}
-use mathlib.Core.Bool.{true, false}
+use mathlib.Core.Bool.{true, false, cond}
 use mathlib.Core.List.{List}
-use Prim.Native.Nat.{ℕ}
+use Prim.Native.Nat.{ℕ, _+_, _/_, _%_}
+use lib.Dec.{eqb}
 use Rattle.fee.specs.declared.total.AmountFound.{AmountFound}
 use Rattle.fee.specs.declared.total.AmountFound.the-variants as found
 use Rattle.epe.specs.declared.ident.Ident.{Ident}
+use Rattle.contents.specs.declared.around.Around.{Around}
+use Rattle.contents.specs.declared.around.Around.the-variants as around
+use Rattle.contents.specs.declared.extra.ExtraSaid.{ExtraSaid}
 use Rattle.model.specs.Calls.{Return, On, Answer}
 use Rattle.memory.specs.Read.{readBook}
 use Rattle.book.specs.Does.{MakesEmpty}
@@ -72,3 +76,19 @@ unfoldable pub replyToTotal : AmountFound → Reply
 replyToTotal (found.Is amount) = doneWith (amount .0) 0
 replyToTotal found.Not = doneWith 0 0
 replyToTotal (found.Refused number) = refusedWith number
+
+-- What is said of an extra field is told in bits: 1 empty, 2 fails, 4 spaced. (document 02, A7) Bits above those say nothing.
+unfoldable pub bitsOf : ExtraSaid → ℕ
+bitsOf said = cond (said .empty) 1 0 + (cond (said .fails) 2 0 + cond (said .spaced) 4 0)
+
+unfoldable pub saidIn : ℕ → ExtraSaid
+saidIn bits = record { empty = eqb (bits % 2) 1; fails = eqb (bits / 2 % 2) 1; spaced = eqb (bits / 4 % 2) 1 }
+
+-- So the second call hears what the first one said.
+abbrev pub BitsSayIt : Type 0
+BitsSayIt = (said : ExtraSaid) → saidIn (bitsOf said) ≡ said
+
+-- A record around its extra field answers its fault, 0 for none, or a refusal.
+unfoldable pub replyToAround : Around → Reply
+replyToAround (around.Fault number) = doneWith number 0
+replyToAround (around.Refused number) = refusedWith number

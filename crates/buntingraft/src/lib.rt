@@ -1,4 +1,8 @@
 // The C ABI of libbuntingraft.a: its exports, and nothing else. include/buntingraft.h says what each is for.
+mod bits;
+
+use bits::bits_of;
+use bits::said_in;
 use book::numbers::are_known;
 use book::numbers::money_of;
 use book::numbers::route_of;
@@ -6,6 +10,9 @@ use book::reply::Reply;
 use book::reply::done;
 use book::reply::refused;
 use book::reply::tell_completion;
+use contents::around::Around;
+use contents::around::judge_around;
+use contents::extra::judge_extra;
 use epe::ident::ident_of;
 use epe::profile::Profile;
 use fee::total::AmountFound;
@@ -26,17 +33,20 @@ ghost use mathlib.Core.Path.{_≡_};
 ghost use mathlib.Core.List.{[]};
 ghost use Rattle.fee.specs.Total.{amountFor};
 ghost use Rattle.epe.specs.Ident.{identOf};
+ghost use Rattle.contents.specs.Faults.{saidOf};
+ghost use Rattle.contents.specs.Around.{faultAround};
 ghost use Rattle.model.specs.Calls.{GoAhead, Pair, Close, OnOrder, Intake, Transfer, On};
 ghost use Rattle.model.specs.declared.Deed.the-variants.{Post, Pay, MarkUndelivered, Withdraw};
 ghost use Rattle.memory.specs.Layout.{size};
 ghost use Rattle.memory.specs.Read.{readBook};
-ghost use Rattle.book.specs.Reply.{Plays};
+ghost use Rattle.book.specs.Reply.{doneWith, Plays};
 ghost use Rattle.write.specs.Money.{moneyText};
 ghost use Rattle.write.specs.Written.{writtenAfter};
 ghost use Rattle.report.specs.Rkf.{rkfWritten};
 ghost use Rattle.report.specs.Ope.{opeWritten};
 ghost use Rattle.store.specs.Stored.{mostStored, storedInto};
 ghost use Rattle.buntingraft.specs.Exports.{replyToSheet, Makes, Returns, Sheets, replyToWriting, TellsWriting, replyToLoading, TellsLoading, replyToTotal};
+ghost use Rattle.buntingraft.specs.Exports.{bitsOf, saidIn, replyToAround};
 
 // How many bytes a book takes.
 #[no_mangle]
@@ -187,6 +197,22 @@ pub extern "C" fn buntingraft_amount_for(flat: u64, rate: u64, total: u64) -> Re
     tell_total(amount_for(flat, rate, total))
 }
 
+// Judges an extra address field.
+#[no_mangle]
+pub extern "C" fn buntingraft_judge_extra(extra: &[u8]) -> Reply
+    ensures { λ r. ⌜ r ≡ doneWith (bitsOf (saidOf (now (extra .entry)))) 0 ⌝ }
+{
+    done(bits_of(judge_extra(extra)), 0)
+}
+
+// Judges the record around an extra field that was judged before.
+#[no_mangle]
+pub extern "C" fn buntingraft_judge_around(bits: u64, before: &[u8], after: &[u8]) -> Reply
+    ensures { λ r. ⌜ r ≡ replyToAround (faultAround (saidIn bits) (now (before .entry)) (now (after .entry))) ⌝ }
+{
+    tell_around(judge_around(said_in(bits), before, after))
+}
+
 // How many bytes a stored book takes at most.
 #[no_mangle]
 pub extern "C" fn buntingraft_stored_bytes() -> u64
@@ -239,6 +265,16 @@ fn tell_writing(writing: Writing) -> Reply
     match writing {
         Writing::Written(length) => done(length, 0),
         Writing::Refused(number) => refused(number),
+    }
+}
+
+// What is said of a record around its extra field, in three numbers.
+fn tell_around(around: Around) -> Reply
+    ensures { λ r. ⌜ r ≡ replyToAround around ⌝ }
+{
+    match around {
+        Around::Fault(number) => done(number, 0),
+        Around::Refused(number) => refused(number),
     }
 }
 
