@@ -154,6 +154,7 @@
 
 mod answer;
 mod book;
+mod extra;
 mod journal;
 mod money;
 mod question;
@@ -167,6 +168,7 @@ mod total;
 
 pub use answer::{Accepted, Pairing, Returned};
 pub use book::Book;
+pub use extra::{judge_around, judge_around_by_bits, judge_extra, ExtraSaid};
 pub use journal::{Journal, NotReplayed};
 pub use money::{Amount, Fee, Money, Route};
 pub use question::{Call, Question};

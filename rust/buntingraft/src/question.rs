@@ -38,6 +38,10 @@ pub enum Call {
     WriteMoney,
     /// The amount that makes a total is found.
     AmountFor,
+    /// An extra address field is judged early.
+    JudgeExtra,
+    /// A record is judged without its extra address field.
+    JudgeAround,
     /// A book is stored.
     Store,
     /// A stored book is loaded.
@@ -55,7 +59,7 @@ pub struct Question {
 
 impl Call {
     /// Every call.
-    pub const ALL: [Call; 18] = [
+    pub const ALL: [Call; 20] = [
         Call::MakeEmpty,
         Call::Intake,
         Call::Transfer,
@@ -72,6 +76,8 @@ impl Call {
         Call::WriteOpe,
         Call::WriteMoney,
         Call::AmountFor,
+        Call::JudgeExtra,
+        Call::JudgeAround,
         Call::Store,
         Call::Load,
     ];
@@ -93,6 +99,8 @@ impl Call {
             Call::WriteOpe => WRITE_OPE,
             Call::WriteMoney => WRITE_MONEY,
             Call::AmountFor => AMOUNT_FOR,
+            Call::JudgeExtra => JUDGE_EXTRA,
+            Call::JudgeAround => JUDGE_AROUND,
             Call::Store => STORE,
             Call::Load => LOAD,
         }
@@ -118,6 +126,8 @@ impl fmt::Display for Call {
             Call::WriteOpe => "write OPE",
             Call::WriteMoney => "write money",
             Call::AmountFor => "amount for",
+            Call::JudgeExtra => "judge extra",
+            Call::JudgeAround => "judge around",
             Call::Store => "store",
             Call::Load => "load",
         })
@@ -297,6 +307,14 @@ const AMOUNT_FOR: &[Question] = &[
     ask(907, "Is the rate at most 10,000?"),
     ask(905, "Is the flat part at most 999,999,999?"),
 ];
+
+const JUDGE_EXTRA: &[Question] = &[];
+
+const JUDGE_AROUND: &[Question] = &[ask(
+    901,
+    "Is `before` eleven fields, each ended by `|`, and `after` 7 to 20, each begun by one, \
+     all well-formed UTF-8 without CR or LF?",
+)];
 
 const STORE: &[Question] = &[SOUND, LONG_ENOUGH];
 

@@ -235,6 +235,16 @@ unsafe extern "C" {
 
     pub(crate) safe fn buntingraft_amount_for(flat: u64, rate: u64, total: u64) -> Reply;
 
+    pub(crate) fn buntingraft_judge_extra(extra: *const u8, extra_length: usize) -> Reply;
+
+    pub(crate) fn buntingraft_judge_around(
+        bits: u64,
+        before: *const u8,
+        before_length: usize,
+        after: *const u8,
+        after_length: usize,
+    ) -> Reply;
+
     pub(crate) safe fn buntingraft_stored_bytes() -> usize;
 
     pub(crate) fn buntingraft_store(

@@ -3,6 +3,8 @@
 
 use crate::amounts::Found;
 use crate::archive::kind;
+use crate::extra::Judged;
+use crate::judged::Counts;
 use crate::naming::has_long_date;
 use crate::output::Written;
 use crate::report::Report;
@@ -56,6 +58,7 @@ pub struct Coverage {
     fees: [u64; FEES.len()],
     amounts_found: u64,
     amounts_none: u64,
+    judged: Counts,
     reported: Reported,
     replayed: u64,
     not_replayed: [u64; 3],
@@ -137,6 +140,19 @@ impl Coverage {
             Ok(None) => self.amounts_none += 1,
             Err(_) => {}
         }
+    }
+
+    /// Counts an extra field that was judged, and apart the bits said of it.
+    pub fn note_extra(&mut self, bits: u64) {
+        self.note_answer(Call::JudgeExtra, &Answer::Done);
+        self.judged.note_said(bits);
+    }
+
+    /// Counts a record that was judged without its extra field, and apart the bits
+    /// passed and the fault.
+    pub fn note_around(&mut self, bits: u64, judged: &Judged) {
+        self.note_result(Call::JudgeAround, judged);
+        self.judged.note_around(bits, judged);
     }
 
     /// Counts what a kind of call was done with, or the number of its refusal.
@@ -230,6 +246,7 @@ impl Coverage {
         for (what, _) in self.amounts().iter().filter(|(_, count)| *count == 0) {
             missing.push(format!("amount {what}"));
         }
+        missing.extend(self.judged.missing());
         missing.extend(self.reported.missing());
         for reason in (1..=3).filter(|reason| self.not_replayed[reason - 1] == 0) {
             missing.push(format!("journal not replayed for {reason}"));
@@ -260,6 +277,7 @@ impl Coverage {
         let fees = fees.map(|((what, _), count)| format!("{what}: {count}"));
         let amounts = self.amounts().into_iter();
         let amounts = amounts.map(|(what, count)| format!("{what}: {count}"));
+        let [said, bits, faults_around] = self.judged.cells();
         let [subjects, faults_reported] = self.reported.cells();
         let reasons = self.not_replayed.iter().zip(1..);
         let reasons = reasons.map(|(count, reason)| format!("not {reason}: {count}"));
@@ -271,6 +289,9 @@ impl Coverage {
             ("faults", faults.collect()),
             ("fees", fees.collect()),
             ("amounts", amounts.collect()),
+            ("extras said", said),
+            ("bits around", bits),
+            ("faults around", faults_around),
             ("reports written", subjects),
             ("faults in an OPE", faults_reported),
             ("journals", replayed.chain(reasons).collect()),
@@ -303,11 +324,13 @@ impl fmt::Display for Coverage {
         let (files, sheets) = (of(Call::Intake), of(Call::Sheet));
         let reports = of(Call::WriteRkf) + of(Call::WriteOpe);
         let (texts, amounts) = (of(Call::WriteMoney), of(Call::AmountFor));
+        let (extras, around) = (of(Call::JudgeExtra), of(Call::JudgeAround));
         let (stores, loads) = (of(Call::Store), of(Call::Load));
         writeln!(
             f,
             "{calls} calls, {files} of them files, {sheets} sheets, {reports} reports, \
-             {texts} texts of money, {amounts} amounts for a total, {stores} stores, {loads} loads"
+             {texts} texts of money, {amounts} amounts for a total, {extras} extra fields, \
+             {around} records around them, {stores} stores, {loads} loads"
         )?;
         writeln!(f, "{} random lists, {} probes", self.lists, self.probes)?;
         writeln!(f, "{} pieces of memory that no calls made", self.memories)?;

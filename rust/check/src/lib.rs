@@ -8,6 +8,8 @@
 //! - [`report`], [`reading`], [`reports`], [`values`]: the report files of both,
 //!   how they are read back, and which are asked for with what values.
 //! - [`amounts`]: the amounts that make a total with their fees.
+//! - [`extra`], [`judged`]: records cut around their extra fields, and what of that was
+//!   reached.
 //! - [`storing`]: stored books with bytes changed, and what they are loaded into.
 //! - [`journal`], [`replay`]: a list of calls as bytes, and its replay.
 //! - [`run`], [`ledger`]: a list of calls under way, and demand 3 over it.
@@ -21,8 +23,10 @@ pub mod calls;
 pub mod coverage;
 pub mod directed;
 pub mod draft;
+pub mod extra;
 pub mod generator;
 pub mod journal;
+pub mod judged;
 pub mod layout;
 pub mod ledger;
 pub mod lendings;
@@ -53,8 +57,8 @@ const _: () = assert!(layout::LENGTH == buntingraft::BOOK_BYTES);
 const _: () = assert!(layout::LENGTH == reference::BOOK_BYTES);
 const _: () = assert!(reference::MOST_SHIPMENTS == buntingraft::MOST_SHIPMENTS);
 
-/// Runs the directed cases, the memory, so many random lists and the amounts that
-/// the seed draws, prints what they covered, and says whether the directed cases and the memory alone
+/// Runs the directed cases, the memory, so many random lists and the amounts and
+/// records that the seed draws, prints what they covered, and says whether the directed cases and the memory alone
 /// reached every answer that there is. A difference ends the program.
 pub fn check(seed: u64, lists: u64) -> bool {
     let mut coverage = Coverage::default();
@@ -63,6 +67,7 @@ pub fn check(seed: u64, lists: u64) -> bool {
     memory::check(seed, &mut coverage);
     let missing = coverage.missing();
     amounts::check(seed, &mut coverage);
+    extra::check(seed, &mut coverage);
     lists::check(seed, 0..lists, &mut coverage);
     print!("{coverage}");
     println!("no difference");

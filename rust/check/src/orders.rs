@@ -72,6 +72,26 @@ pub fn good_draft(identifier: &str, most: usize, numbers: &mut Numbers) -> Draft
     draft
 }
 
+/// A record of 19 to 32 fields, some of them any text, the extra field more often one
+/// of its own.
+pub fn some_record(numbers: &mut Numbers) -> Vec<String> {
+    let mut draft = Draft::new("ZS1", &[1]).with_fields(19 + numbers.below(14));
+    if numbers.one_in(2) {
+        let extra = numbers.pick(&["", "PR", "SP_12", "PP_", "x", " PR", "PR "]);
+        draft = draft.with_field(1, 12, extra);
+    }
+    for field in [8, 9, 10] {
+        if numbers.one_in(3) {
+            draft = draft.with_field(1, field, "");
+        }
+    }
+    for _ in 0..numbers.below(3) {
+        let field = 4 + numbers.below(16);
+        draft = draft.with_field(1, field, &some_text(numbers));
+    }
+    draft.records.remove(0)
+}
+
 /// An order's amount.
 fn some_amount(numbers: &mut Numbers) -> u64 {
     if numbers.one_in(2) {

@@ -4,6 +4,7 @@
 
 use crate::amounts::{Asked, Found};
 use crate::coverage::Coverage;
+use crate::extra;
 use crate::layout::LENGTH;
 use crate::ledger::Ledger;
 use crate::numbers::Numbers;
@@ -70,7 +71,7 @@ impl<'a> Run<'a> {
             let difference = format!("both answer {answer:?}, but {difference}");
             self.differs(&told(&call), &difference);
         }
-        self.coverage.note(&call, &answer, Some(&self.held));
+        note(&call, &answer, Some(&self.held), self.coverage);
         self.made.push((call, answer));
         answer
     }
@@ -244,7 +245,7 @@ impl<'a> Run<'a> {
         let difference = match self.aside.call(call) {
             Ok(answer) if answer == expected => {
                 let after = self.aside.book.as_ref();
-                return self.coverage.note(call, &answer, after);
+                return note(call, &answer, after, self.coverage);
             }
             Ok(answer) => format!("both answer {answer:?}, not {expected:?}"),
             Err(difference) => difference,
@@ -275,7 +276,7 @@ impl<'a> Run<'a> {
         let tried = self
             .twin
             .try_each(&mut self.aside, calls, |call, answer, after| {
-                coverage.note(call, answer, after)
+                note(call, answer, after, coverage)
             });
         if let Err((call, difference)) = tried {
             self.differs(&told(call), &difference);
@@ -315,4 +316,11 @@ impl<'a> Run<'a> {
             ""
         }
     }
+}
+
+/// Counts a call with its answer; the records of a file are also judged around their
+/// extra fields.
+fn note(call: &Call, answer: &Answer, after: Option<&Book>, coverage: &mut Coverage) {
+    coverage.note(call, answer, after);
+    extra::records(call, answer, after, coverage);
 }

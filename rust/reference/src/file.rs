@@ -7,6 +7,7 @@
 //! A5 adds 907 after 905 and 906 after 132.
 
 use crate::calendar::{is_real_date, is_time_of_day, is_within};
+use crate::extra::{judge_extra, ExtraSaid};
 use crate::fee::{Fee, Tariff};
 use crate::name::{read_name, Name};
 use crate::text::{are_digits, is_digit, is_letter, number, read_amount, read_sum};
@@ -104,12 +105,12 @@ fn lines(text: &str) -> Vec<&str> {
 }
 
 /// "Another CR or LF spoils its line".
-fn is_spoilt(line: &str) -> bool {
+pub(crate) fn is_spoilt(line: &str) -> bool {
     line.contains(['\r', '\n'])
 }
 
 /// "Fields are parted by `|`, none at the line's end."
-fn fields(line: &str) -> Vec<&str> {
+pub(crate) fn fields(line: &str) -> Vec<&str> {
     line.split('|').collect()
 }
 
@@ -270,10 +271,11 @@ impl Opened<'_> {
 
         let mut orders = Vec::new();
         for (record, amount) in records.iter().zip(amounts) {
+            let said = judge_extra(record[11].as_bytes());
             orders.push(Order {
                 amount,
                 fee: tariff.fee_of(amount),
-                fault: first_fault(record),
+                fault: first_fault(record, said),
             });
         }
         Ok(OrderFile {
@@ -294,8 +296,9 @@ fn is_created(text: &[u8], today: u64) -> bool {
     is_real_date(date) && is_time_of_day(time) && is_within(date, 60, 10, today)
 }
 
-/// "An order is faulty by its first fault".
-fn first_fault(record: &[&str]) -> Option<u8> {
+/// "An order is faulty by its first fault". Of extra (12) only what is said of it
+/// has a part here.
+pub(crate) fn first_fault(record: &[&str], extra: ExtraSaid) -> Option<u8> {
     let field = |position: usize| record[position - 1];
     // "Lengths count code points, not bytes."
     let length = |position: usize| field(position).chars().count();
@@ -319,15 +322,15 @@ fn first_fault(record: &[&str]) -> Option<u8> {
     }
     // "5 town (8) or street (9) above 35, or town, street and extra (12) all
     // empty"
-    if length(8) > 35 || length(9) > 35 || (is_empty(8) && is_empty(9) && is_empty(12)) {
+    if length(8) > 35 || length(9) > 35 || (is_empty(8) && is_empty(9) && extra.empty) {
         return Some(5);
     }
     // "6 house number (10) above 11, or empty while extra is empty"
-    if length(10) > 11 || (is_empty(10) && is_empty(12)) {
+    if length(10) > 11 || (is_empty(10) && extra.empty) {
         return Some(6);
     }
     // "7 extra not empty and not `PR`, nor `SP_` or `PP_` with 1 to 5 digits"
-    if !is_empty(12) && !is_extra(field(12).as_bytes()) {
+    if extra.fails {
         return Some(7);
     }
     // "8 benefit identifier (14) not 1 to 20"
@@ -339,10 +342,15 @@ fn first_fault(record: &[&str]) -> Option<u8> {
         return Some(9);
     }
     // "10 one of fields 4 to 19 starts or ends with a space"
-    for position in 4..=19 {
-        if field(position).starts_with(' ') || field(position).ends_with(' ') {
-            return Some(10);
+    let is_spaced = |position: usize| {
+        if position == 12 {
+            extra.spaced
+        } else {
+            field(position).starts_with(' ') || field(position).ends_with(' ')
         }
+    };
+    if (4..=19).any(is_spaced) {
+        return Some(10);
     }
     // "Nothing else in a record is judged."
     None
@@ -357,7 +365,7 @@ fn is_postcode(text: &[u8]) -> bool {
 }
 
 /// `PR`, or `SP_` or `PP_` with 1 to 5 digits.
-fn is_extra(text: &[u8]) -> bool {
+pub(crate) fn is_extra(text: &[u8]) -> bool {
     if text == b"PR" {
         return true;
     }

@@ -1,7 +1,7 @@
 //! A plain reference implementation of the settlement book for EPE shipments.
 //!
 //! Written from document 01 (the law), document 02 (its changes, of which A1 to
-//! A6 are in), document 00 (the demands), the decided readings and source
+//! A7 are in), document 00 (the demands), the decided readings and source
 //! document 003 sections 3, 5.1, 5.3.3.1, 5.4.3.1 and 6; from nothing else. It is
 //! meant to be read beside document 01: every question carries that document's
 //! words and number, in that document's order. Words of document 02 are marked as
@@ -13,6 +13,7 @@
 //! - [`fee`]: an order's fee and the division's remainder.
 //! - [`total`]: the amount that makes a total with its fee.
 //! - [`file`](mod@file): the profile and the questions a file is asked.
+//! - [`extra`]: the extra address field judged early, and a record around it.
 //! - [`book`]: the book as plain values, its calls and their answers.
 //! - [`sheet`]: the balance sheet of a book.
 //! - [`report`]: the report files RKF and OPE.
@@ -20,6 +21,7 @@
 
 pub mod book;
 pub mod calendar;
+pub mod extra;
 pub mod fee;
 pub mod file;
 pub mod name;
@@ -31,6 +33,7 @@ pub mod text;
 pub mod total;
 
 pub use book::{Answer, Book, Call, Money, Route, Row, Shipment, Stage, State, Waits};
+pub use extra::{judge_around, judge_extra, ExtraSaid};
 pub use fee::{Fee, Tariff};
 pub use file::{judge, read_file, Order, OrderFile, Profile};
 pub use name::{read_name, read_title, Name};

@@ -62,7 +62,7 @@ fn cut(bytes: &[u8]) -> impl Iterator<Item = Vec<u8>> + '_ {
 
 /// Sequences of two to four bytes: every first and second byte, and third and
 /// fourth ones at the edges of what may follow.
-fn sequences() -> Vec<Vec<u8>> {
+pub fn sequences() -> Vec<Vec<u8>> {
     const EDGES: [u8; 4] = [0x7F, 0x80, 0xBF, 0xC0];
     let mut all = Vec::new();
     for (first, second) in (0x80..=255).flat_map(|first| (0..=255).map(move |next| (first, next))) {

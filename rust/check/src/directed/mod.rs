@@ -1,12 +1,14 @@
 //! Cases taken from the papers one by one: every question and every two, every
 //! boundary, fees with a rate, every spelling of money, every refusal, long
 //! titles, full books, sheets, report files, money as text, amounts for a total,
-//! stored books, journals, ZS1 and the field engineer's card.
+//! extra fields judged early, stored books, journals, ZS1 and the field engineer's
+//! card.
 
 mod amounts;
 mod bytes;
 mod card;
 mod dates;
+mod extra;
 mod fees;
 mod fields;
 mod full;
@@ -39,6 +41,7 @@ pub fn check(coverage: &mut Coverage) {
     ope::check(coverage);
     money::check(coverage);
     amounts::check(coverage);
+    extra::check(coverage);
     store::check(coverage);
     replay::check(coverage);
     card::check(coverage);

@@ -3,6 +3,7 @@
 mod amounts;
 mod boundaries;
 mod card;
+mod extra;
 mod fees;
 mod file_questions;
 mod helpers;
