@@ -7,21 +7,21 @@ ghost use Rattle.acts.specs.Answers.{returning_of};
 use money::{Amount, Fee, Sum};
 
 // Done, or the number of the question answered no.
-#[derive(Drop)]
+#[derive(Clone, Copy)]
 pub enum Completion {
     Done,
     Refused(u64),
 }
 
 // A file accepted, with the number of its orders and of the faulty ones.
-#[derive(Drop)]
+#[derive(Clone, Copy)]
 pub enum Acceptance {
     Accepted(u64, u64),
     Refused(u64),
 }
 
 // Paired, or what is missing of either money.
-#[derive(Drop)]
+#[derive(Clone, Copy)]
 pub enum Pairing {
     Paired,
     Short(Amount, Fee),
@@ -29,21 +29,21 @@ pub enum Pairing {
 }
 
 // The fee that posting an order earned.
-#[derive(Drop)]
+#[derive(Clone, Copy)]
 pub enum Posting {
     Earned(Fee),
     Refused(u64),
 }
 
 // The amount that an order paid out.
-#[derive(Drop)]
+#[derive(Clone, Copy)]
 pub enum Payment {
     Paid(Amount),
     Refused(u64),
 }
 
 // What goes back: amounts or fees, and from how many orders.
-#[derive(Drop)]
+#[derive(Clone, Copy)]
 pub enum Returning {
     Amounts(Amount, u64),
     Fees(Fee, u64),

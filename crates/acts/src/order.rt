@@ -14,7 +14,7 @@ use money::{Amount, Fee};
 use text::number::is_between;
 
 // What was handled, or the number of the question answered no.
-#[derive(Drop)]
+#[derive(Clone, Copy)]
 pub enum Handling {
     Handled(Fee, Amount),
     Refused(u64),

@@ -13,7 +13,7 @@ use memory::shipments;
 use sound::is_sound;
 
 // The memory is not a sound book, no shipment fits, or the shipment of a head and its first row.
-#[derive(Drop)]
+#[derive(Clone, Copy)]
 pub enum Place {
     Unsound,
     Unknown,

@@ -23,14 +23,14 @@ use model::Route;
 use money::{Money, Sum};
 
 // What waits, and in how many orders.
-#[derive(Drop)]
+#[derive(Clone, Copy)]
 pub struct Waits {
     pub sum: Sum,
     pub count: u64,
 }
 
 // What is taken out of rows on the way: each order's worth in grosze, and each order, as often as its wait adds to the byte of state.
-#[derive(Drop)]
+#[derive(Clone, Copy)]
 pub struct Taken {
     pub worth: u64,
     pub count: u64,

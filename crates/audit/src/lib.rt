@@ -1,4 +1,5 @@
 // The audit of a book: demand 3 over any list of calls in lent memory, and a journal of calls replayed.
+#![tactic(auto)]
 mod journal;
 mod play;
 
@@ -13,7 +14,7 @@ use sound::is_sound;
 use text::bytes::rest;
 
 // How a replay ended: with the number of calls, or before the first of them.
-#[derive(Drop)]
+#[derive(Clone, Copy)]
 pub enum Replaying {
     Replayed(u64),
     NotEncoded,

@@ -9,7 +9,7 @@ use money::Money;
 
 // 0 done, 1 short or 2 refused, and what the answer says.
 #[repr(C)]
-#[derive(Drop)]
+#[derive(Clone, Copy)]
 pub struct Reply {
     pub status: u64,
     pub first: u64,

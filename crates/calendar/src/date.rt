@@ -7,11 +7,11 @@ use text::number::{Number, is_between};
 
 // The number that a date's eight digits yyyymmdd write.
 #[repr(C)]
-#[derive(Drop)]
+#[derive(Clone, Copy)]
 pub struct Date(pub u64);
 
 // What is read as a date.
-#[derive(Drop)]
+#[derive(Clone, Copy)]
 pub enum DateRead {
     Real(Date),
     NotReal,

@@ -15,7 +15,7 @@ use text::lines::has_stray;
 use text::utf8::is_well_formed;
 
 // The record's fault, 0 for none; or a refusal.
-#[derive(Drop)]
+#[derive(Clone, Copy)]
 pub enum Around {
     Fault(u64),
     Refused(u64),

@@ -8,7 +8,7 @@ use crate::field::{is_digits, is_empty, is_spaced};
 use text::bytes::{equal, first, rest};
 
 // "whether it is empty, whether it fails question 7 and whether it starts or ends with a space"
-#[derive(Drop)]
+#[derive(Clone, Copy)]
 pub struct ExtraSaid {
     pub empty: bool,
     pub fails: bool,

@@ -11,7 +11,7 @@ use epe::file::body_of;
 use text::lines::line_end;
 
 // What the contents come to: accepted with the number of orders and of faulty ones, or the number of the first question answered no.
-#[derive(Drop)]
+#[derive(Clone, Copy)]
 pub enum Judged {
     Accepted(u64, u64),
     Refused(u64),

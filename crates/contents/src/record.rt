@@ -18,14 +18,14 @@ use text::number;
 use text::number::Number;
 
 // An order: its amount, and the number of its first fault, 0 for none.
-#[derive(Drop)]
+#[derive(Clone, Copy)]
 pub struct Order {
     pub amount: Amount,
     pub fault: u64,
 }
 
 // What a record line says: whether it has the shape of the record that it is to be, and its order.
-#[derive(Drop)]
+#[derive(Clone, Copy)]
 pub struct RecordRead {
     pub shaped: bool,
     pub order: Order,

@@ -26,7 +26,7 @@ use text::lines::line_end;
 use text::number::{Number, is_number, value_of};
 
 // What the header states of the records, and what the questions before them come to: how many orders, their sum, and the terms of their fees.
-#[derive(Drop)]
+#[derive(Clone, Copy)]
 pub struct Stated {
     pub verdict: Verdict,
     pub count: u64,

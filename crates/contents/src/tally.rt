@@ -13,7 +13,7 @@ use text::lines::line_end;
 
 // What the record lines so far come to: whether all are shaped, priced and charged a fee, how many they are, their sum, and how many orders are faulty.
 // Their sum is a plain number: 999,999 amounts can pass the cap of a sum, and only one that equals the header's is taken.
-#[derive(Drop)]
+#[derive(Clone, Copy)]
 pub struct Tally {
     pub shaped: bool,
     pub priced: bool,

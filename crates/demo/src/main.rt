@@ -1,5 +1,6 @@
 // Document 01's worked shipment ZS1, run through the calls of the book in lent memory: a line for each call, with what it answers.
 // The number before a call is its line in document 01's table (crates/model/specs/Zs1.antt); line 0 is what comes before it.
+#![tactic(auto)]
 use acts::answer::{Acceptance, Completion, Pairing, Payment, Posting, Returning};
 use calendar::date::Date;
 use epe::ident::Ident;

@@ -5,7 +5,7 @@ use mathlib.Core.Bool.{Bool, true, false, true≢false}
 use mathlib.Core.List.{List, [], ◌∷◌, ◌++◌}
 use Prim.Native.Nat.{ℕ, ◌<◌}
 use native.Mathlib.Omega.{arith}
-use Rattle.text.proofs.Branches.{told_yes, told_no}
+use Rattle.text.proofs.Branches.{told}
 use Rattle.epe.specs.Questions.{Question, ◌else_no◌, first_no, is_passed, asked}
 use Rattle.epe.specs.declared.verdict.Verdict.{Verdict}
 use Rattle.epe.specs.declared.verdict.Verdict.TheVariants.{Passed, Refused}
@@ -45,4 +45,4 @@ module _ (ps qs : List Question) (verdict : Verdict) (is-first : verdict ≡ fir
 pub pos_of_ne : (n : ℕ) → (n ≡ 0 → ⊥) → 0 < n
 pos_of_ne n h = omega arith
 
-pub ruleset asking = (refl, ask_no, ask_yes, ask_none, told_no, told_yes)
+pub ruleset asking = (refl, ask_no, ask_yes, ask_none, told)

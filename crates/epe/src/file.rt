@@ -14,7 +14,7 @@ use text::bytes::{equal, first, rest, slice};
 use text::lines::{line_end, without_last_end};
 
 // What the opening comes to, and the name's parts, which are in form where it passed.
-#[derive(Drop)]
+#[derive(Clone, Copy)]
 pub struct Opening {
     pub verdict: Verdict,
     pub name: Name,

@@ -8,7 +8,7 @@ use text::number::is_between;
 
 // An identifier: 17 bytes with its length, zeros behind it.
 #[repr(C)]
-#[derive(Drop)]
+#[derive(Clone, Copy)]
 pub struct Ident {
     pub bytes: [u8; 17],
     pub len: usize,

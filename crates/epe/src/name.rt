@@ -24,7 +24,7 @@ use text::number::{is_number, read, value_of};
 const HYPHEN: u8 = b'-';
 
 // The parts of a name.
-#[derive(Drop)]
+#[derive(Clone, Copy)]
 pub struct Name {
     pub ident: Ident,
     pub date: Date,
@@ -33,7 +33,7 @@ pub struct Name {
 }
 
 // What a title says.
-#[derive(Drop)]
+#[derive(Clone, Copy)]
 pub struct Title {
     pub verdict: Verdict,
     pub name: Name,

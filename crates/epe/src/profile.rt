@@ -15,7 +15,7 @@ pub const KINDS: u64 = 5;
 
 // Today, the flat parts of the fees by benefit kind 0 to 4, the number of fields in a record line, and the rates by kind.
 #[repr(C)]
-#[derive(Drop)]
+#[derive(Clone, Copy)]
 pub struct Profile {
     pub today: Date,
     pub flat: [Fee; 5],

@@ -1,4 +1,5 @@
 // An order's fee: a flat part, and a rate in ten-thousandths of its amount; and which amount makes a total. It knows nothing of a book.
+#![tactic(auto)]
 mod refusals;
 pub mod total;
 
@@ -11,25 +12,25 @@ use money::{Amount, Fee};
 
 // A rate, in ten-thousandths.
 #[repr(C)]
-#[derive(Drop)]
+#[derive(Clone, Copy)]
 pub struct Rate(pub u64);
 
 // What fees are agreed on: a flat part, and a rate.
-#[derive(Drop)]
+#[derive(Clone, Copy)]
 pub struct Terms {
     pub flat: Fee,
     pub rate: Rate,
 }
 
 // What an order is charged: its fee, and beside it what the division leaves.
-#[derive(Drop)]
+#[derive(Clone, Copy)]
 pub struct Charge {
     pub fee: Fee,
     pub remainder: u64,
 }
 
 // A charge, or a fee above its cap, which is none.
-#[derive(Drop)]
+#[derive(Clone, Copy)]
 pub enum Charging {
     Of(Charge),
     Above,

@@ -11,7 +11,7 @@ use money::{Amount, Fee};
 const OUT_OF_REACH: u64 = 1 << 32;
 
 // The amount that makes a total, none, or the number of the question answered no.
-#[derive(Drop)]
+#[derive(Clone, Copy)]
 pub enum AmountFound {
     Is(Amount),
     Not,

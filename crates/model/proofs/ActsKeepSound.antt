@@ -134,10 +134,10 @@ module _ (s : Shipment) (h : InOrder s) where
     transfer-kept : leb (accepted money s + n) sum_cap ≡ true → Kept s (leave Done (with_accepted money n s))
     transfer-kept e = record {
       in_order = record {
-        name_in_form_lem = h.name_in_form;
+        name_in_form = h.name_in_form;
         terms_fit_holds = h.terms_fit_holds;
         an_order = h.an_order;
-        rows_sound_lem = h.rows_sound;
+        rows_sound = h.rows_sound;
         go_ahead_with_faults = h.go_ahead_with_faults;
         faults_with_go_ahead = h.faults_with_go_ahead;
         moneys = transfer-money (leb-true (accepted money s + n) sum_cap e);
@@ -161,10 +161,10 @@ module _ (s : Shipment) (h : InOrder s) where
   go_ahead_kept : any_faulty s.rows ≡ true → Kept s (leave Done (with_go_ahead s))
   go_ahead_kept faulty = record {
     in_order = record {
-      name_in_form_lem = h.name_in_form;
+      name_in_form = h.name_in_form;
       terms_fit_holds = h.terms_fit_holds;
       an_order = h.an_order;
-      rows_sound_lem = h.rows_sound;
+      rows_sound = h.rows_sound;
       go_ahead_with_faults = λ gone. faulty;
       faults_with_go_ahead = λ p f. refl;
       moneys = go_ahead_money;
@@ -193,10 +193,10 @@ module _ (s : Shipment) (h : InOrder s) where
         let unpaired = waiting_unpaired s.stage waiting in
         record {
           in_order = record {
-            name_in_form_lem = h.name_in_form;
+            name_in_form = h.name_in_form;
             terms_fit_holds = h.terms_fit_holds;
             an_order = h.an_order;
-            rows_sound_lem = rows_later s.agreed.terms s.stage stage (λ p. absurd (not_both (is_paired s.stage) p unpaired)) s.rows h.rows_sound;
+            rows_sound = rows_later s.agreed.terms s.stage stage (λ p. absurd (not_both (is_paired s.stage) p unpaired)) s.rows h.rows_sound;
             go_ahead_with_faults = h.go_ahead_with_faults;
             faults_with_go_ahead = go_ahead_holds;
             moneys = λ money. stage-money money (covers money);
@@ -221,10 +221,10 @@ module _ (s : Shipment) (h : InOrder s) where
     rows_kept : (answer : Answer) → rows_sound s.agreed.terms s.stage rows ≡ true → any_faulty rows ≡ any_faulty s.rows → Kept s (leave answer (with_rows rows s))
     rows_kept answer sound faults = record {
       in_order = record {
-        name_in_form_lem = h.name_in_form;
+        name_in_form = h.name_in_form;
         terms_fit_holds = h.terms_fit_holds;
         an_order = omega (arith, h.an_order);
-        rows_sound_lem = sound;
+        rows_sound = sound;
         go_ahead_with_faults = λ gone. faults ∙ h.go_ahead_with_faults gone;
         faults_with_go_ahead = λ p faulty. h.faults_with_go_ahead p (sym faults ∙ faulty);
         moneys = rows-money;
@@ -288,10 +288,10 @@ module _ (s : Shipment) (h : InOrder s) where
     surplus-kept : (answer : Answer) → Kept s (leave answer (with_returned money (free money s) s))
     surplus-kept answer = record {
       in_order = record {
-        name_in_form_lem = h.name_in_form;
+        name_in_form = h.name_in_form;
         terms_fit_holds = h.terms_fit_holds;
         an_order = h.an_order;
-        rows_sound_lem = h.rows_sound;
+        rows_sound = h.rows_sound;
         go_ahead_with_faults = h.go_ahead_with_faults;
         faults_with_go_ahead = h.faults_with_go_ahead;
         moneys = surplus-money;

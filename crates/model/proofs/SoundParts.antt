@@ -42,10 +42,10 @@ pub record MoneyInOrder (money : Money) (s : Shipment) : Type 0 where
   pub unreturned : is_waiting s.stage ≡ true → returned money s ≡ 0
 
 pub record InOrder (s : Shipment) : Type 0 where
-  pub name_in_form_lem : name_in_form s.agreed.name ≡ true
+  pub name_in_form : name_in_form s.agreed.name ≡ true
   pub terms_fit_holds : TermsFit s.agreed.terms
   pub an_order : 1 ≤ length s.rows
-  pub rows_sound_lem : rows_sound s.agreed.terms s.stage s.rows ≡ true
+  pub rows_sound : rows_sound s.agreed.terms s.stage s.rows ≡ true
   pub go_ahead_with_faults : s.go_ahead ≡ true → any_faulty s.rows ≡ true
   pub faults_with_go_ahead : is_paired s.stage ≡ true → any_faulty s.rows ≡ true → s.go_ahead ≡ true
   pub moneys : (money : Money) → MoneyInOrder money s
@@ -79,10 +79,10 @@ in_order s h =
     let faulty = any_faulty s.rows in
     let paired = is_paired s.stage in
     record {
-      name_in_form_lem = search halves;
+      name_in_form = search halves;
       terms_fit_holds = (leb-true s.agreed.terms.flat.0 order_cap (search halves), leb-true s.agreed.terms.rate.0 rate_cap (search halves));
       an_order = leb-true 1 (length s.rows) (search halves);
-      rows_sound_lem = search halves;
+      rows_sound = search halves;
       go_ahead_with_faults = where_first s.go_ahead faulty (search halves);
       faults_with_go_ahead = λ p f. where_first (paired && faulty) s.go_ahead (search halves) (both_yes paired faulty p f);
       moneys = each (search halves depth 7) (search halves depth 7);

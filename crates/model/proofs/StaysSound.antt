@@ -50,14 +50,14 @@ use Rattle.model.proofs.ActsKeepSound.{Kept, transferred_kept, acted_kept}
 -- The parts of a sound book, and of one with a first shipment.
 pub record BookInOrder (book : Book) : Type 0 where
   pub few : length book ≤ most_shipments
-  pub rows_fit_lem : rows_in book ≤ most_rows
+  pub rows_fit : rows_in book ≤ most_rows
   pub shipments : shipments_sound book ≡ true
 
 pub book_in_order : (book : Book) → sound book ≡ true → BookInOrder book
 unfolding sound
 book_in_order book h = record {
   few = leb-true (length book) most_shipments (search halves);
-  rows_fit_lem = leb-true (rows_in book) most_rows (search halves);
+  rows_fit = leb-true (rows_in book) most_rows (search halves);
   shipments = search halves;
 }
 
@@ -159,10 +159,10 @@ entered_in_order : (profile : Profile) (name : Name) (orders : List Order) → F
     → EachInRange orders → EachCharged (terms_for profile name.kind) orders → InOrder (entered profile name orders)
 unfolding entered
 entered_in_order profile name orders fits formed some ranged charged = record {
-  name_in_form_lem = formed;
+  name_in_form = formed;
   terms_fit_holds = terms_fit_holds profile name.kind fits;
   an_order = omega (arith, length-map orders (entered_row (terms_for profile name.kind)));
-  rows_sound_lem = entered_rows (terms_for profile name.kind) orders ranged charged;
+  rows_sound = entered_rows (terms_for profile name.kind) orders ranged charged;
   go_ahead_with_faults = λ e. absurd (false≢true e);
   faults_with_go_ahead = λ p. absurd (false≢true p);
   moneys = λ money. entered_money money profile name orders;
@@ -200,7 +200,7 @@ module _ (book : Book) (h : sound book ≡ true) where
       record {
         is_sound = book_sound (on_first is does book).book (record {
           few = omega (arith, b.few, k.as_many);
-          rows_fit_lem = omega (arith, b.rows_fit, k.same_rows);
+          rows_fit = omega (arith, b.rows_fit, k.same_rows);
           shipments = k.shipments;
         });
       }
@@ -211,7 +211,7 @@ module _ (book : Book) (h : sound book ≡ true) where
       let b = book_in_order book h in
       book_sound (book ++ (s ∷ [])) (record {
         few = omega (arith, length-append book (s ∷ []));
-        rows_fit_lem = omega (arith, rows_behind book s);
+        rows_fit = omega (arith, rows_behind book s);
         shipments = shipments_behind book s b.shipments (shipment_sound_lem s k) unknown;
       })
 

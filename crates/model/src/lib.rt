@@ -1,8 +1,9 @@
 // The book as plain values: the types that its definitions share with the code above.
+#![tactic(auto)]
 use money::{Amount, Fee};
 
 // Where a shipment stands.
-#[derive(Drop)]
+#[derive(Clone, Copy)]
 pub enum Stage {
     Waiting,
     Paired,
@@ -10,7 +11,7 @@ pub enum Stage {
 }
 
 // The routes by which money goes back: surplus (ZWR), faulty (OPR), undelivered (ZPR) and withdrawn orders (ZZR).
-#[derive(Drop)]
+#[derive(Clone, Copy)]
 pub enum Route {
     Zwr,
     Opr,
@@ -19,7 +20,7 @@ pub enum Route {
 }
 
 // Where an order stands: Faulty with its fault and whether K and O wait, Undelivered with whether K waits, Withdrawn with whether K and O wait.
-#[derive(Drop)]
+#[derive(Clone, Copy)]
 pub enum State {
     Open,
     Posted,
@@ -30,7 +31,7 @@ pub enum State {
 }
 
 // An order's row: its amount, its fee with what the division left beside it, and where it stands.
-#[derive(Drop)]
+#[derive(Clone, Copy)]
 pub struct Row {
     pub amount: Amount,
     pub fee: Fee,
@@ -39,7 +40,7 @@ pub struct Row {
 }
 
 // What is done with one order.
-#[derive(Drop)]
+#[derive(Clone, Copy)]
 pub enum Deed {
     Post,
     Pay,

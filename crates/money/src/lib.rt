@@ -1,5 +1,6 @@
 // Money in whole grosze: amounts (K) and fees (O), two types with their caps, tests and constructors, which nothing adds to each other.
 // The texts of an order's amount and of a sum.
+#![tactic(auto)]
 ghost use Rattle.std.specs.Prelude.{◌≡◌, ◌&&◌, ◌+◌, ◌-◌, ◌^◌, ◌≤◌, eqb};
 ghost use Rattle.text.specs.Number.{Below};
 ghost use Rattle.money.specs.Money.{amount, fee, order_cap, sum_cap, is_order_amount, is_order_fee, is_sum, is_transfer, is_total};
@@ -11,7 +12,7 @@ use text::number;
 use text::number::{Number, is_between};
 
 // The two moneys, by the letters of document 01: amounts and fees.
-#[derive(Drop)]
+#[derive(Clone, Copy)]
 pub enum Money {
     K,
     O,
@@ -19,30 +20,30 @@ pub enum Money {
 
 // Grosze of amounts, K.
 #[repr(C)]
-#[derive(Drop)]
+#[derive(Clone, Copy)]
 pub struct Amount(pub u64);
 
 // Grosze of fees, O.
 #[repr(C)]
-#[derive(Drop)]
+#[derive(Clone, Copy)]
 pub struct Fee(pub u64);
 
 // An amount, or a refusal.
-#[derive(Drop)]
+#[derive(Clone, Copy)]
 pub enum AmountRead {
     Is(Amount),
     Not,
 }
 
 // A sum of one money: code that serves both keeps them apart by it.
-#[derive(Drop)]
+#[derive(Clone, Copy)]
 pub enum Sum {
     Amounts(Amount),
     Fees(Fee),
 }
 
 // A sum, or a refusal.
-#[derive(Drop)]
+#[derive(Clone, Copy)]
 pub enum SumRead {
     Is(Sum),
     Not,

@@ -64,8 +64,8 @@ header_full : (code own : List ℕ) (created : ℕ) (source outcome : List ℕ) 
 unfolding parts_joined
 header_full code own created source outcome a b c d =
     let all = header_plain code own created source outcome a b c d in record {
-      are_fields_lem = plain_fields (header_of code own created source outcome) all;
-      well_formed_holds = plain_row (header_of code own created source outcome) all;
+      each_is_field = plain_fields (header_of code own created source outcome) all;
+      each_well_formed = plain_row (header_of code own created source outcome) all;
       some = omega arith;
       not_empty = omega arith;
     }
@@ -78,8 +78,8 @@ record_full : (running order code : ℕ) → Full (record_of running order code)
 unfolding parts_joined
 record_full running order code =
     let all = record_plain running order code in record {
-      are_fields_lem = plain_fields (record_of running order code) all;
-      well_formed_holds = plain_row (record_of running order code) all;
+      each_is_field = plain_fields (record_of running order code) all;
+      each_well_formed = plain_row (record_of running order code) all;
       some = omega arith;
       not_empty = omega arith;
     }

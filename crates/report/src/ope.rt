@@ -30,7 +30,7 @@ use write::{OUTPUT_TOO_SHORT, Writing, places_of, put_number};
 const START: [u8; 16] = *b"\xEF\xBB\xBF1|PP|OPE|1.0|";
 
 // What faulty orders come to: how many they are, how long their records are, and whether each has a code.
-#[derive(Drop)]
+#[derive(Clone, Copy)]
 pub struct Found {
     pub count: u64,
     pub length: usize,
@@ -38,7 +38,7 @@ pub struct Found {
 }
 
 // Where the next record goes, and its running number.
-#[derive(Drop)]
+#[derive(Clone, Copy)]
 pub struct Put {
     pub at: usize,
     pub running: u64,

@@ -1,4 +1,5 @@
 // The balance sheet: a row to a shipment in a lent table, and totals.
+#![tactic(auto)]
 mod row;
 mod total;
 
@@ -17,7 +18,7 @@ use sound::is_sound;
 
 // What was accepted, is held, is free and has left, in K.
 #[repr(C)]
-#[derive(Drop)]
+#[derive(Clone, Copy)]
 pub struct Amounts {
     pub accepted: Amount,
     pub held: Amount,
@@ -27,7 +28,7 @@ pub struct Amounts {
 
 // The same, in O.
 #[repr(C)]
-#[derive(Drop)]
+#[derive(Clone, Copy)]
 pub struct Fees {
     pub accepted: Fee,
     pub held: Fee,
@@ -37,7 +38,7 @@ pub struct Fees {
 
 // A row of the sheet: a shipment's identifier, and its sums.
 #[repr(C)]
-#[derive(Drop)]
+#[derive(Clone, Copy)]
 pub struct SheetRow {
     pub ident: Ident,
     pub amounts: Amounts,
@@ -46,28 +47,28 @@ pub struct SheetRow {
 
 // The sums over rows.
 #[repr(C)]
-#[derive(Drop)]
+#[derive(Clone, Copy)]
 pub struct Totals {
     pub amounts: Amounts,
     pub fees: Fees,
 }
 
 // What a sheet answers: so many rows are filled, or the number of the question answered no.
-#[derive(Drop)]
+#[derive(Clone, Copy)]
 pub enum Sheeting {
     Filled(u64),
     Refused(u64),
 }
 
 // What comes of a sheet: the number of the question answered no, or 0, and the totals after.
-#[derive(Drop)]
+#[derive(Clone, Copy)]
 pub struct Plan {
     pub number: u64,
     pub totals: Totals,
 }
 
 // A shipment's row of the sheet, and where the next one's orders begin.
-#[derive(Drop)]
+#[derive(Clone, Copy)]
 pub struct Line {
     pub row: SheetRow,
     pub next: usize,

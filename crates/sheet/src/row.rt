@@ -18,7 +18,7 @@ use memory::row::{amount, fee};
 use money::{Amount, Fee};
 
 // Of orders: all their amounts, the amounts held, all their fees, and the fees held.
-#[derive(Drop)]
+#[derive(Clone, Copy)]
 pub struct Parts {
     pub amounts: Amount,
     pub held: Amount,

@@ -10,7 +10,7 @@ use memory::head::{head_bytes, orders};
 use money::{Amount, Fee};
 
 // Totals with rows added, or one of them is above the cap.
-#[derive(Drop)]
+#[derive(Clone, Copy)]
 pub enum Adding {
     Added(Totals),
     Above,

@@ -87,7 +87,7 @@ module _ (terms : Terms) (stage : Stage) (paired : Bool) (e : is_paired stage �
   rows_low classes [] low h = (low, refl)
   rows_low classes (row ∷ rows) low h =
       let first = row_low row (search halves) in
-      let rest = rows_low _ rows (join_low paired classes (class_of row.state) low first.0) (search halves) in
+      let rest = rows_low (bit_or classes (class_of row.state)) rows (join_low paired classes (class_of row.state) low first.0) (search halves) in
       (rest.0, both_yes (row_charged terms row) _ first.1 rest.1)
 
   low_rows : (classes : ℕ) (rows : List Row) → joined classes rows < cond paired 4 2 → each (row_charged terms) rows ≡ true → rows_sound terms stage rows ≡ true

@@ -15,7 +15,7 @@ use memory::row::{amount, fee, remainder};
 use money::{Amount, Fee};
 
 // The sums of amounts and of fees, and whether each order is charged its fee. The fees are only added up right where each is.
-#[derive(Drop)]
+#[derive(Clone, Copy)]
 pub struct Charges {
     pub amounts: Amount,
     pub fees: Fee,
@@ -23,7 +23,7 @@ pub struct Charges {
 }
 
 // Of orders: the sums of amounts and of fees, and the bits in which the two sides of any division differ.
-#[derive(Drop)]
+#[derive(Clone, Copy)]
 pub struct Products {
     pub amounts: Amount,
     pub fees: Fee,

@@ -17,7 +17,7 @@ pub const ONLY_PAIRED: u8 = 2;
 pub const OUT_OF_RANGE: u8 = 4;
 
 // What the rows of a shipment come to: the classes of their states joined, and their charges.
-#[derive(Drop)]
+#[derive(Clone, Copy)]
 pub struct Tally {
     pub classes: u8,
     pub charges: Charges,

@@ -1,4 +1,5 @@
 // A book as bytes that travel, and back.
+#![tactic(auto)]
 pub mod load;
 
 ghost use Rattle.std.specs.Prelude.{◌≡◌, true, ◌++◌, ◌+◌, ◌*◌, ◌≤◌, ◌<◌, length, take, drop};

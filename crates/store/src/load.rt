@@ -23,7 +23,7 @@ const NOT_STORED: u64 = 32;
 const MEMORY_TOO_SHORT: u64 = 30;
 
 // What loading answers: the memory holds the book, or the number of the question answered no.
-#[derive(Drop)]
+#[derive(Clone, Copy)]
 pub enum Loading {
     Loaded,
     Refused(u64),

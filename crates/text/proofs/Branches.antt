@@ -2,7 +2,7 @@
 -- `search branches depth 12` under `unfolding f` closes most returns of a function that branches as its definition `f` does.
 -- Assumes nothing.
 use mathlib.Core.Path.{◌≡◌, refl, sym, ◌∙◌}
-use mathlib.Core.Bool.{Bool, true, false, cond, ◌&&◌, ◌||◌, not}
+use mathlib.Core.Bool.{Bool, true, false, cond, ◌&&◌, ◌||◌}
 use borrow.Author.Tests.{lt-ltb, le-ltb, le-leb, lt-leb, eq-eqb, ne_eqb}
 
 pub cond_true : {A : Type 0} (t : Bool) (a b r : A) → t ≡ true → r ≡ a → r ≡ cond t a b
@@ -38,14 +38,6 @@ second_no false u h = refl
 pub told : (r t v : Bool) → r ≡ t → r ≡ v → t ≡ v
 told r t v p q = sym p ∙ q
 
-pub told_no : (r t : Bool) → r ≡ t → not r ≡ true → t ≡ false
-told_no true t p q = cc
-told_no false t p q = sym p
-
-pub told_yes : (r t : Bool) → r ≡ t → not r ≡ false → t ≡ true
-told_yes true t p q = sym p
-told_yes false t p q = cc
-
 pub ruleset branches = (
   refl,
   cond_true,
@@ -58,8 +50,6 @@ pub ruleset branches = (
   first_no_lem,
   second_no,
   told,
-  told_no,
-  told_yes,
   lt-ltb,
   le-ltb,
   le-leb,

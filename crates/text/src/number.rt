@@ -6,7 +6,7 @@ ghost use Rattle.text.specs.Number.{number_after, number, is_number, value_of, B
 use crate::bytes::is_digit;
 
 // What a text says as a number.
-#[derive(Drop)]
+#[derive(Clone, Copy)]
 pub enum Number {
     Of(u64),
     Not,

@@ -18,8 +18,8 @@ use Rattle.write.proofs.WellFormed.{written_is_well_formed}
 
 -- A line of fields, well formed and not empty.
 pub record Full (row : List (List ℕ)) : Type 0 where
-  pub are_fields_lem : are_fields row ≡ true
-  pub well_formed_holds : are_well_formed row ≡ true
+  pub each_is_field : are_fields row ≡ true
+  pub each_well_formed : are_well_formed row ≡ true
   pub some : 0 < length row
   pub not_empty : 0 < length (line row)
 
@@ -31,7 +31,7 @@ above_zero : (n : ℕ) → 0 < n → not (eqb n 0) ≡ true
 above_zero n h = rw (ne_eqb n 0 (λ e. omega arith))
 
 is_line_lem : (row : List (List ℕ)) → Full row → is_line row ≡ true
-is_line_lem row full = both_yes (not (eqb (length row) 0)) (are_fields row) (above_zero (length row) full.some) full.are_fields
+is_line_lem row full = both_yes (not (eqb (length row) 0)) (are_fields row) (above_zero (length row) full.some) full.each_is_field
 
 are_lines_lem : (row : List (List ℕ)) (rows : List (List (List ℕ))) → AllFull (row ∷ rows) → are_lines (row ∷ rows) ≡ true
 unfolding are_lines
@@ -41,10 +41,10 @@ are_lines_lem row (next ∷ rows) full = both_yes (is_line row) (are_lines (next
 all_well_formed_lem : (rows : List (List (List ℕ))) → AllFull rows → all_well_formed rows ≡ true
 unfolding all_well_formed
 all_well_formed_lem [] full = refl
-all_well_formed_lem (row ∷ rows) full = both_yes (are_well_formed row) (all_well_formed rows) full.0.well_formed_holds (all_well_formed_lem rows full.1)
+all_well_formed_lem (row ∷ rows) full = both_yes (are_well_formed row) (all_well_formed rows) full.0.each_well_formed (all_well_formed_lem rows full.1)
 
 pub full_read : (row : List (List ℕ)) → Full row → fields 0x7C (line row) ≡ row
-full_read row full = line_read row full.some full.are_fields
+full_read row full = line_read row full.some full.each_is_field
 
 module _ (row : List (List ℕ)) (rows : List (List (List ℕ))) (full : AllFull (row ∷ rows)) where
   pub first_read : fields 0x7C (get_or (lines (drop 3 (file (row ∷ rows)))) 0 []) ≡ row

@@ -1,4 +1,5 @@
 // Writing into lent outputs: bytes, texts and numbers, each at its place; and what a writer answers.
+#![tactic(auto)]
 pub mod grosze;
 
 ghost use Rattle.std.specs.Prelude.{◌≡◌, [], ◌∷◌, ◌++◌, ◌+◌, ◌≤◌, length};
@@ -9,7 +10,7 @@ ghost use Rattle.write.specs.Written.{put_at};
 pub const OUTPUT_TOO_SHORT: u64 = 30;
 
 // What a writer answers: so many bytes are written, or the number of the question answered no.
-#[derive(Drop)]
+#[derive(Clone, Copy)]
 pub enum Writing {
     Written(u64),
     Refused(u64),

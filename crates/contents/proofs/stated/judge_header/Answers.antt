@@ -1,0 +1,15 @@
+-- `contents::stated::judge_header` asks the profile's questions, and the header's where those passed.
+use mathlib.Core.Path.{◌∙◌}
+use Rattle.text.proofs.Branches.{told}
+use Rattle.epe.proofs.Asking.{join_no, join_yes}
+use Rattle.contents.proofs.stated.judge_header.Goals as goal
+
+pub returns-then-not-is_passed : goal.returns-then-not-is_passed
+returns-then-not-is_passed c =
+    let asked = c.judge_profile-verdict in
+    join_no _ _ asked.result asked.ensures (told _ _ _ c.is_passed.ensures c.if-not-is_passed.true)
+
+pub returns : goal.returns
+returns c =
+    let asked = c.judge_profile-verdict in
+    c.judge_statement.ensures ∙ join_yes _ _ asked.result asked.ensures (told _ _ _ c.is_passed.ensures c.if-not-is_passed.false)

@@ -1,0 +1,24 @@
+-- `money::Sum::of_transfer` is `as_transfer`.
+use mathlib.Core.Path.{sym, ap, ◌∙◌}
+use Rattle.money.specs.Money.{as_transfer}
+use Rattle.money.proofs.Sums.{transfer_within}
+use Rattle.money.specs.declared.SumRead.TheVariants.{Is as SumIs}
+use Rattle.money.proofs.Sum.of_transfer.Reads as reads
+use Rattle.money.proofs.Sum.of_transfer.Lts as lts
+use Rattle.money.proofs.Sum.of.Reads as of-reads
+use Rattle.money.proofs.is_transfer.Reads as is-transfer-reads
+use Rattle.money.proofs.Sum.of_transfer.Goals as goal
+
+-- src/lib.rt:234:13
+pub returns-then-not-is_transfer : goal.returns-then-not-is_transfer
+unfolding as_transfer
+returns-then-not-is_transfer c = rw (sym c.is_transfer.ensures ∙ c.if-not-is_transfer.true)
+
+-- src/lib.rt:236:22
+pub of-requires : goal.of-requires
+of-requires c = transfer_within c.args.money _ (sym c.is_transfer.ensures ∙ c.if-not-is_transfer.false)
+
+pub returns : goal.returns
+unfolding as_transfer
+returns c =
+    rw (sym c.is_transfer.ensures ∙ c.if-not-is_transfer.false) (ap SumIs c.of.ensures)

@@ -1,0 +1,10 @@
+-- `sound::charges::are_amounts` asks amount after amount.
+use Rattle.sound.specs.Inner.Charges.{amount_fits}
+use Rattle.sound.proofs.Tallying.{Asking}
+use Rattle.sound.proofs.charges.are_amounts.Given as goal
+
+abbrev pub invariant-loop-left : goal.invariant-loop-left
+invariant-loop-left l = Asking amount_fits l.memory l.k l.n l.fit l.i l.left
+
+abbrev pub decreases-loop-left : goal.decreases-loop-left
+decreases-loop-left l = l.left

@@ -1,0 +1,12 @@
+-- `text::bytes::find`: what is passed, with the bytes before b in what is left, gives the whole.
+use mathlib.Core.Path.{◌≡◌}
+use Prim.Native.Nat.{◌+◌, ◌-◌, ◌≤◌}
+use lib.ListN.{length, drop}
+use Rattle.text.specs.Bytes.{before}
+use Rattle.text.proofs.bytes.find.Given as goal
+
+abbrev pub invariant-loop-i : goal.invariant-loop-i
+invariant-loop-i l = (l.i ≤ length l.s) × (l.i + before l.b (drop l.i l.s) ≡ l.from + before l.b (drop l.from l.s))
+
+abbrev pub decreases-loop-i : goal.decreases-loop-i
+decreases-loop-i l = length l.s - l.i
