@@ -1,0 +1,9 @@
+-- `sheet::total::add` adds row after row: with those still to add they are all, and a total past the cap stays past it.
+use Rattle.sheet.proofs.Totalling.{Summing}
+use Rattle.sheet.proofs.total.add.Given as goal
+
+abbrev pub invariant-loop-left : goal.invariant-loop-left
+invariant-loop-left l = Summing l.memory l.initial.sums l.sums l.i l.k l.left
+
+abbrev pub decreases-loop-left : goal.decreases-loop-left
+decreases-loop-left l = l.left
