@@ -1,5 +1,6 @@
 // Where a call finds its shipment in lent memory, what it does to the shipment there, and what it answers.
 #![tactic(auto)]
+
 pub mod answer;
 pub mod order;
 pub mod place;

@@ -1,5 +1,6 @@
 // The audit of a book: demand 3 over any list of calls in lent memory, and a journal of calls replayed.
 #![tactic(auto)]
+
 mod journal;
 mod play;
 

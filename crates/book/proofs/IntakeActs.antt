@@ -1,7 +1,7 @@
 -- An intake's questions of the book, and what it does where all are answered yes.
 -- Assumes nothing.
 use mathlib.Core.Path.{◌≡◌, refl, sym, ap, subst, ◌∙◌}
-use mathlib.Core.Bool.{Bool, true, false, cond, false≢true}
+use mathlib.Core.Bool.{Bool, true, false, false≢true}
 use mathlib.Core.List.{List, [], map}
 use Prim.Native.Nat.{ℕ, ◌+◌, ◌-◌, ◌≤◌, ◌<◌}
 use native.Mathlib.Omega.{arith}
@@ -35,9 +35,8 @@ use Rattle.contents.proofs.KeptInOrder.{kept_in_order}
 use Rattle.epe.proofs.QuestionLaws.{all_yes, asked_refused, asked_passed, asked_no, asked_yes, asked_none, asked_behind, asked_before}
 use Rattle.model.specs.Shipment.{most_shipments, most_rows, Shipment}
 use Rattle.model.specs.Calls.{Call, Intake, Answer, Refused, Accepted}
-use Rattle.model.specs.Book.{Book, stay, is_unknown, rows_in, entered_row, new_shipment, entered, intake_questions, taken_in, step}
+use Rattle.model.specs.Book.{Book, is_unknown, rows_in, entered_row, new_shipment, entered, intake_questions, taken_in, step}
 use Rattle.model.specs.Sound.{sound}
-use Rattle.model.proofs.SoundParts.{halves}
 use Rattle.model.proofs.StaysSound.{stays_sound, opened_in_form}
 use Rattle.model.proofs.StatedKind.{stated_terms_lem}
 use Rattle.memory.specs.Layout.{size}

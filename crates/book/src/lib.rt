@@ -1,5 +1,6 @@
 // The settlement book in lent memory: every call of document 01 but the sheet.
 #![tactic(auto)]
+
 mod enter;
 pub mod numbers;
 pub mod refusals;

@@ -1,5 +1,6 @@
 // The C ABI of libbuntingraft.a: its exports, and nothing else. include/buntingraft.h says what each is for.
 #![tactic(auto)]
+
 mod bits;
 
 ghost use Rattle.std.specs.Prelude.{◌≡◌, []};

@@ -1,5 +1,6 @@
 // The C ABI of libbuntingraft_replay.a: the export of the replay, and nothing else. include/buntingraft.h says what it is for.
 #![tactic(auto)]
+
 ghost use Rattle.std.specs.Prelude.{◌≡◌};
 ghost use Rattle.buntingraft_replay.specs.TellsReplay.{not_replayed, reply_to_replay, TellsReplay};
 

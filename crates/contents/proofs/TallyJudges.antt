@@ -16,7 +16,7 @@ use Rattle.epe.specs.declared.verdict.Verdict.{Verdict}
 use Rattle.epe.specs.declared.verdict.Verdict.TheVariants.{Passed, Refused}
 use Rattle.epe.proofs.QuestionLaws.{asked_no, asked_through}
 use Rattle.epe.proofs.LineWalk.{next_of, records_after}
-use Rattle.contents.specs.Contents.{shaped, order_of, orders, faulty_count, record_questions, judged_of, orders_read}
+use Rattle.contents.specs.Contents.{order_of, orders, faulty_count, record_questions, judged_of, orders_read}
 use Rattle.contents.specs.Kept.{kept_from}
 use Rattle.contents.specs.Steps.{none_kept, kept_where, judged_records, records_of}
 use Rattle.contents.specs.Inner.Tally.{Tallied, tally_questions, tally_judged}

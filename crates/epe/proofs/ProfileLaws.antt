@@ -10,7 +10,7 @@ use lib.Dec.{eqb, leb}
 use lib.ListN.{length, get_or}
 use Rattle.text.specs.Bytes.{between}
 use Rattle.text.proofs.Branches.{and_left, and_right, cond_either}
-use Rattle.money.specs.Money.{fee, order_cap, is_order_fee, WithinOrder}
+use Rattle.money.specs.Money.{fee, order_cap, is_order_fee}
 use Rattle.money.specs.declared.Fee.{Fee}
 use Rattle.fee.specs.Fee.{rate, rate_cap, is_rate, TermsFit}
 use Rattle.fee.specs.declared.Rate.{Rate}

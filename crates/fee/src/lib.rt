@@ -1,5 +1,6 @@
 // An order's fee: a flat part, and a rate in ten-thousandths of its amount; and which amount makes a total. It knows nothing of a book.
 #![tactic(auto)]
+
 mod refusals;
 pub mod total;
 

@@ -2,12 +2,12 @@
 -- Assumes nothing.
 use mathlib.Core.Path.{◌≡◌, refl, ap, ◌∙◌}
 use mathlib.Core.List.{List}
-use Prim.Native.Nat.{ℕ, ◌*◌, ◌^◌, ◌≤◌, ◌<◌}
+use Prim.Native.Nat.{ℕ}
 use native.Mathlib.Omega.{arith}
 use Rattle.money.specs.Money.{WithinSum}
 use Rattle.money.specs.declared.Money.{Money}
 use Rattle.money.specs.declared.Money.TheVariants.{K, O}
-use Rattle.model.specs.Shipment.{most_rows, Shipment, accepted, returned, is_waiting, is_paired}
+use Rattle.model.specs.Shipment.{Shipment, accepted, returned, is_waiting, is_paired}
 use Rattle.model.proofs.SoundParts.{in_order}
 use Rattle.memory.specs.Layout.{head_bytes}
 use Rattle.memory.specs.Heads.{terms_in, stage_in, go_ahead_in, order_count_in, transfers_in, surplus_in, shipment_in}

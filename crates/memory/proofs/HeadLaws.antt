@@ -18,7 +18,7 @@ use Rattle.model.specs.declared.Row.{Row}
 use Rattle.model.specs.declared.Stage.{Stage}
 use Rattle.model.specs.declared.Stage.TheVariants.{Waiting, Paired, Closed}
 use Rattle.memory.specs.Number.{number_at, with_number}
-use Rattle.memory.specs.Layout.{head_size, IsHead}
+use Rattle.memory.specs.Layout.{IsHead}
 use Rattle.memory.specs.Heads.{name_in, agreed_in, stage_of, stage_at, stage_in, go_ahead_at, go_ahead_in, flags_in_form, order_count_in, accepted_at, returned_at, sums_in, shipment_in}
 use Rattle.memory.specs.Inner.Stored.{stage_byte, FieldStored}
 use Rattle.memory.proofs.Numbers.{number_alike, stored_is_read}

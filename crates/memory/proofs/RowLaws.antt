@@ -1,18 +1,17 @@
 -- A row's fields, as they lie in the columns; and a byte of state stored changes its row's state alone.
 -- Assumes nothing.
-use mathlib.Core.Path.{◌≡◌, refl, sym, ◌∙◌, ap}
+use mathlib.Core.Path.{◌≡◌, sym, ◌∙◌, ap}
 use mathlib.Core.List.{List, ◌++◌}
-use Prim.Native.Nat.{ℕ, zero, suc, ◌+◌, ◌<◌, ◌≤◌}
+use Prim.Native.Nat.{ℕ, ◌+◌, ◌<◌, ◌≤◌}
 use native.Mathlib.Nat.{add-zero}
 use native.Mathlib.Omega.{arith}
 use lib.ListN.{length, get_or, set, take, drop, length-set, get_or-append}
 use lib.Seq.{get_or-set_same, get_or-set_other, get_or-append-add, get_or-take, get_or-drop}
-use Rattle.money.specs.Money.{amount, fee}
 use Rattle.model.specs.Shipment.{most_rows}
 use Rattle.model.specs.Calls.{with_state}
 use Rattle.model.specs.declared.Row.{Row}
 use Rattle.memory.specs.Number.{number_at}
-use Rattle.memory.specs.Layout.{amount_at, fee_at, remainder_at, code_at, size, row_bytes, IsRow}
+use Rattle.memory.specs.Layout.{amount_at, fee_at, remainder_at, code_at, size, row_bytes}
 use Rattle.memory.specs.States.{state_of}
 use Rattle.memory.specs.Rows.{code_in, row_of}
 use Rattle.memory.specs.Inner.Stored.{with_code_at, CodeStored}

@@ -1,5 +1,6 @@
 // The lent memory of a book: where its fields lie, read and stored in place. docs/LAYOUT.md has the table.
 #![tactic(auto)]
+
 pub mod class;
 pub mod column;
 pub mod enter;

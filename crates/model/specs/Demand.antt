@@ -3,7 +3,7 @@
 -- "Take any two points of the list, any shipment (all zero before its intake), and amounts or fees alone. Transfers accepted between the points equal
 -- the rise in money its orders hold, plus the rise in its free money, plus all that left by payout, earned fee and the four returns. No free money is
 -- ever below zero, and no order's money leaves twice or in part. Refused calls and calls for other shipments move none of these numbers."
-use Rattle.std.specs.Prelude.{◌≡◌, Bool, true, false, ◌&&◌, List, [], ◌∷◌, ℕ, zero, suc, ◌+◌, ◌-◌, ◌≤◌, length, get_or, take, drop}
+use Rattle.std.specs.Prelude.{◌≡◌, Bool, true, false, ◌&&◌, List, [], ◌∷◌, ℕ, zero, suc, ◌+◌, ◌≤◌, length, get_or, take, drop}
 use Rattle.std.proofs.Math.Option.{Option, some, none}
 use Rattle.money.specs.declared.Money.{Money}
 use Rattle.epe.specs.Ident.{same_ident}

@@ -1,5 +1,6 @@
 // The book as plain values: the types that its definitions share with the code above.
 #![tactic(auto)]
+
 use money::{Amount, Fee};
 
 // Where a shipment stands.

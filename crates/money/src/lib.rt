@@ -1,6 +1,7 @@
 // Money in whole grosze: amounts (K) and fees (O), two types with their caps, tests and constructors, which nothing adds to each other.
 // The texts of an order's amount and of a sum.
 #![tactic(auto)]
+
 ghost use Rattle.std.specs.Prelude.{◌≡◌, ◌&&◌, ◌+◌, ◌-◌, ◌^◌, ◌≤◌, eqb};
 ghost use Rattle.text.specs.Number.{Below};
 ghost use Rattle.money.specs.Money.{amount, fee, order_cap, sum_cap, is_order_amount, is_order_fee, is_sum, is_transfer, is_total};

@@ -1,5 +1,6 @@
 // The balance sheet: a row to a shipment in a lent table, and totals.
 #![tactic(auto)]
+
 mod row;
 mod total;
 

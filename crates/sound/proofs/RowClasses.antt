@@ -5,7 +5,7 @@ use mathlib.Core.Bool.{Bool, true, false, not, cond, ◌&&◌, ◌||◌, false�
 use mathlib.Core.List.{List, [], ◌∷◌}
 use Prim.Native.Nat.{ℕ, ◌+◌, ◌%◌, ◌≤◌, ◌<◌}
 use native.Mathlib.Omega.{arith}
-use borrow.Author.Tests.{eqb-true, eqb-false, eq-eqb, ne_eqb, ltb-true, ltb-false, lt-ltb, le-ltb}
+use borrow.Author.Tests.{eqb-true, eqb-false, eq-eqb, ne_eqb, ltb-true, lt-ltb}
 use lib.Bits.{bit_or, or_lt, or_step, or_add_and, and_le_l, and_le_r}
 use lib.Dec.{eqb, ltb}
 use Rattle.text.proofs.Branches.{and_left, and_right, both_yes, both_ways, either_way}

@@ -1,5 +1,6 @@
 // Whether lent memory is a sound book, judged in one pass over its heads and rows.
 #![tactic(auto)]
+
 mod apart;
 mod charges;
 mod shipment;

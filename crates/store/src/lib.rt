@@ -1,5 +1,6 @@
 // A book as bytes that travel, and back.
 #![tactic(auto)]
+
 pub mod load;
 
 ghost use Rattle.std.specs.Prelude.{◌≡◌, true, ◌++◌, ◌+◌, ◌*◌, ◌≤◌, ◌<◌, length, take, drop};

@@ -1,5 +1,6 @@
 // Writing into lent outputs: bytes, texts and numbers, each at its place; and what a writer answers.
 #![tactic(auto)]
+
 pub mod grosze;
 
 ghost use Rattle.std.specs.Prelude.{◌≡◌, [], ◌∷◌, ◌++◌, ◌+◌, ◌≤◌, length};

@@ -1,5 +1,5 @@
 -- How code asks whether each order of a shipment is charged its fee: question by question, each of all rows.
-use Rattle.std.specs.Prelude.{◌≡◌, Bool, true, List, ℕ, ◌+◌, ◌^◌, ◌<◌, ◌≤◌, eqb, ltb}
+use Rattle.std.specs.Prelude.{◌≡◌, Bool, true, List, ℕ, ◌+◌, ◌^◌, ◌<◌, eqb, ltb}
 use Rattle.std.specs.Int.Bits.{bit_or}
 use Rattle.money.specs.Money.{amount, fee, is_order_amount, is_order_fee, WithinSum}
 use Rattle.money.specs.declared.Money.TheVariants.{K, O}

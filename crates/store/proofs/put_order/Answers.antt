@@ -14,6 +14,9 @@ pub returns : goal.returns
 returns c =
     let given = c.args in
     let bytes = row_bytes given.memory.now given.k in
-    let whole = take_all row_size bytes (omega (arith, row_size_lem given.memory.now c.requires.1 given.k c.requires.0)) in record { value = refl; output_after = c.put_eleven.ensures
+    let whole = take_all row_size bytes (omega (arith, row_size_lem given.memory.now c.requires.1 given.k c.requires.0)) in record {
+      value = refl;
+      output_after = c.put_eleven.ensures
           ∙ ap (λ (l : List ℕ). put_at given.at (take row_size l) given.output.now) c.order_bytes-order.ensures
-          ∙ ap (λ (l : List ℕ). put_at given.at l given.output.now) whole }
+          ∙ ap (λ (l : List ℕ). put_at given.at l given.output.now) whole;
+    }

@@ -32,31 +32,28 @@ overflow_add-at c =
     }
 
 pub fee-fee-requires : goal.fee-fee-requires
-fee-fee-requires c =
-    (
-      row-there c.args.memory.now c.args.i c.args.k c.args.deed c.args.number
-          c.head_bytes-head.ensures.0 c.is_paired.ensures c.if-not-is_paired.false c.orders.ensures.0 c.is_between.ensures
-          c.if-not-is_between.false c.requires,
-      search rules,
-    )
+fee-fee-requires c = (
+  row-there c.args.memory.now c.args.i c.args.k c.args.deed c.args.number
+      c.head_bytes-head.ensures.0 c.is_paired.ensures c.if-not-is_paired.false c.orders.ensures.0 c.is_between.ensures
+      c.if-not-is_between.false c.requires,
+  search rules,
+)
 
 pub amount-amount-requires : goal.amount-amount-requires
-amount-amount-requires c =
-    (
-      row-there c.args.memory.now c.args.i c.args.k c.args.deed c.args.number
-          c.head_bytes-head.ensures.0 c.is_paired.ensures c.if-not-is_paired.false c.orders.ensures.0 c.is_between.ensures
-          c.if-not-is_between.false c.requires,
-      search rules,
-    )
+amount-amount-requires c = (
+  row-there c.args.memory.now c.args.i c.args.k c.args.deed c.args.number
+      c.head_bytes-head.ensures.0 c.is_paired.ensures c.if-not-is_paired.false c.orders.ensures.0 c.is_between.ensures
+      c.if-not-is_between.false c.requires,
+  search rules,
+)
 
 pub state-state-requires : goal.state-state-requires
-state-state-requires c =
-    (
-      row-there c.args.memory.now c.args.i c.args.k c.args.deed c.args.number
-          c.head_bytes-head.ensures.0 c.is_paired.ensures c.if-not-is_paired.false c.orders.ensures.0 c.is_between.ensures
-          c.if-not-is_between.false c.requires,
-      search rules,
-    )
+state-state-requires c = (
+  row-there c.args.memory.now c.args.i c.args.k c.args.deed c.args.number
+      c.head_bytes-head.ensures.0 c.is_paired.ensures c.if-not-is_paired.false c.orders.ensures.0 c.is_between.ensures
+      c.if-not-is_between.false c.requires,
+  search rules,
+)
 
 pub returns-then-not-does_fit : goal.returns-then-not-does_fit
 returns-then-not-does_fit c =
@@ -65,13 +62,12 @@ returns-then-not-does_fit c =
     c.if-not-is_between.false c.state-state.ensures c.does_fit.ensures c.if-not-does_fit.true
 
 pub store_state-requires : goal.store_state-requires
-store_state-requires c =
-    (
-      row-there c.args.memory.now c.args.i c.args.k c.args.deed c.args.number
-          c.head_bytes-head.ensures.0 c.is_paired.ensures c.if-not-is_paired.false c.orders.ensures.0 c.is_between.ensures
-          c.if-not-is_between.false c.requires,
-      search rules,
-    )
+store_state-requires c = (
+  row-there c.args.memory.now c.args.i c.args.k c.args.deed c.args.number
+      c.head_bytes-head.ensures.0 c.is_paired.ensures c.if-not-is_paired.false c.orders.ensures.0 c.is_between.ensures
+      c.if-not-is_between.false c.requires,
+  search rules,
+)
 
 pub returns : goal.returns
 returns c =

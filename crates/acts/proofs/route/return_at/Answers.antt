@@ -24,12 +24,11 @@ returns-then-waits_in_vain c =
     c.waits_in_vain.ensures c.if-waits_in_vain.true
 
 pub clear-waits-requires : goal.clear-waits-requires
-clear-waits-requires c =
-    (
-      c.requires,
-      waiting-within c.args.memory.now c.args.i c.args.k c.head_bytes-head.ensures.0 c.args.route c.args.money
-          c.is_paired.ensures c.if-not-is_paired.false c.is_zpr_with_o.ensures c.if-is_zpr_with_o.false c.requires,
-    )
+clear-waits-requires c = (
+  c.requires,
+  waiting-within c.args.memory.now c.args.i c.args.k c.head_bytes-head.ensures.0 c.args.route c.args.money
+      c.is_paired.ensures c.if-not-is_paired.false c.is_zpr_with_o.ensures c.if-is_zpr_with_o.false c.requires,
+)
 
 pub returns-then-grosze-eq0 : goal.returns-then-grosze-eq0
 returns-then-grosze-eq0 c =

@@ -27,8 +27,8 @@ on : (c : After-after_line-at)
 on c =
     let here = c.loop-at in
     let this =
-        turn_of _ _ _ _ here.at here.tally _ _ c.read_record-read.result _ _ (omega arith) (omega arith) here.invariant c.line_end-end.ensures
-        c.slice.ensures c.read_record-read.ensures in
+    turn_of _ _ _ _ here.at here.tally _ _ c.read_record-read.result _ _ (omega arith) (omega arith) here.invariant c.line_end-end.ensures
+    c.slice.ensures c.read_record-read.ensures in
     this.on _ _ _ (not-false _ c.if-not-read.false) c.with_order-tally.ensures c.keep.ensures c.after_line-at.ensures
 
 pub loop-at-init : goal.loop-at-init

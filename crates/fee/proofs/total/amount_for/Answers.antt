@@ -16,11 +16,10 @@ pub order-flat-requires : goal.order-flat-requires
 order-flat-requires c = leb-true _ _ (told _ _ _ c.is_order.ensures c.if-not-is_order.false)
 
 pub find-requires : goal.find-requires
-find-requires c =
-    (
-      rw c.order-flat.ensures (leb-true _ _ (told _ _ _ c.is_order.ensures c.if-not-is_order.false)),
-      leb-true _ _ (told _ _ _ c.is_rate.ensures c.if-not-is_rate.false),
-    )
+find-requires c = (
+  rw c.order-flat.ensures (leb-true _ _ (told _ _ _ c.is_order.ensures c.if-not-is_order.false)),
+  leb-true _ _ (told _ _ _ c.is_rate.ensures c.if-not-is_rate.false),
+)
 
 pub returns : goal.returns
 unfolding amount_for

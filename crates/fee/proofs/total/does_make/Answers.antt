@@ -17,11 +17,10 @@ charge_on-requires c =
     (c.requires, rw c.order-amount.ensures (amount_within _ (told _ _ _ c.is_order.ensures c.if-not-is_order.false)))
 
 pub total_of-requires : goal.total_of-requires
-total_of-requires c =
-    (
-      rw c.order-amount.ensures (amount_within _ (told _ _ _ c.is_order.ensures c.if-not-is_order.false)),
-      fee_within _ _ _ (sym c.in-Of.is ∙ c.charge_on.ensures),
-    )
+total_of-requires c = (
+  rw c.order-amount.ensures (amount_within _ (told _ _ _ c.is_order.ensures c.if-not-is_order.false)),
+  fee_within _ _ _ (sym c.in-Of.is ∙ c.charge_on.ensures),
+)
 
 pub returns-in-Of : goal.returns-in-Of
 returns-in-Of c =

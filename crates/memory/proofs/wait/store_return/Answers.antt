@@ -12,9 +12,8 @@ overflow_cast-result c =
     omega (arith, taken_few _ _ _ c.requires.2.is _ c.code-code.ensures.2)
 
 pub returns : goal.returns
-returns c =
-    (
-      λ route money is.
-          rw c.store_code.ensures (row-returned route money _ is _ c.code-code.ensures.2 _ _ c.requires.0 c.requires.1 c.code-code.ensures.0),
-      taken_few _ _ _ c.requires.2.is _ c.code-code.ensures.2,
-    )
+returns c = (
+  λ route money is.
+      rw c.store_code.ensures (row-returned route money _ is _ c.code-code.ensures.2 _ _ c.requires.0 c.requires.1 c.code-code.ensures.0),
+  taken_few _ _ _ c.requires.2.is _ c.code-code.ensures.2,
+)

@@ -2,8 +2,6 @@
 use mathlib.Core.Path.{ap}
 use native.Mathlib.Omega.{arith}
 use Rattle.money.specs.Money.{amount}
-use Rattle.money.proofs.Amount.less.Reads as reads
-use Rattle.money.proofs.Amount.less.Lts as lts
 use Rattle.money.proofs.Amount.less.Goals as goal
 
 pub returns-then-self-other : goal.returns-then-self-other

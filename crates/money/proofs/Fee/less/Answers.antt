@@ -2,8 +2,6 @@
 use mathlib.Core.Path.{ap}
 use native.Mathlib.Omega.{arith}
 use Rattle.money.specs.Money.{fee}
-use Rattle.money.proofs.Fee.less.Reads as reads
-use Rattle.money.proofs.Fee.less.Lts as lts
 use Rattle.money.proofs.Fee.less.Goals as goal
 
 pub returns-then-self-other : goal.returns-then-self-other

@@ -1,8 +1,6 @@
 -- `money::Sum::grosze` is `grosze_in`.
 use borrow.Author.Rules.{rules}
 use Rattle.money.specs.Money.{grosze_in}
-use Rattle.money.proofs.Sum.grosze.Reads as reads
-use Rattle.money.proofs.Sum.grosze.Lts as lts
 use Rattle.money.proofs.Sum.grosze.Goals as goal
 
 pub returns-in-Amounts : goal.returns-in-Amounts

@@ -1,8 +1,6 @@
 -- `money::Sum::money` is `money_of_sum`.
 use borrow.Author.Rules.{rules}
 use Rattle.money.specs.Money.{money_of_sum}
-use Rattle.money.proofs.Sum.money.Reads as reads
-use Rattle.money.proofs.Sum.money.Lts as lts
 use Rattle.money.proofs.Sum.money.Goals as goal
 
 pub returns-in-Amounts : goal.returns-in-Amounts

@@ -2,10 +2,6 @@
 use mathlib.Core.Path.{ap}
 use Rattle.money.specs.Money.{sum_of}
 use Rattle.money.specs.declared.Sum.TheVariants.{Amounts, Fees}
-use Rattle.money.proofs.Sum.of.Reads as reads
-use Rattle.money.proofs.Sum.of.Lts as lts
-use Rattle.money.proofs.Amount.sum.Reads as Amount-sum-reads
-use Rattle.money.proofs.Fee.sum.Reads as Fee-sum-reads
 use Rattle.money.proofs.Sum.of.Goals as goal
 
 -- src/lib.rt:209:5

@@ -3,10 +3,6 @@ use mathlib.Core.Path.{sym, ap, ◌∙◌}
 use Rattle.money.specs.Money.{as_transfer}
 use Rattle.money.proofs.Sums.{transfer_within}
 use Rattle.money.specs.declared.SumRead.TheVariants.{Is as SumIs}
-use Rattle.money.proofs.Sum.of_transfer.Reads as reads
-use Rattle.money.proofs.Sum.of_transfer.Lts as lts
-use Rattle.money.proofs.Sum.of.Reads as of-reads
-use Rattle.money.proofs.is_transfer.Reads as is-transfer-reads
 use Rattle.money.proofs.Sum.of_transfer.Goals as goal
 
 -- src/lib.rt:234:13

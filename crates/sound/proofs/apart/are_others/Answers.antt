@@ -1,7 +1,6 @@
 -- `sound::apart::are_others` asks head after head.
 use mathlib.Core.Path.{◌∙◌}
 use Rattle.sound.proofs.HeadByHead.{others-end, others-no, others-on}
-use Rattle.memory.specs.Layout.{head_bytes}
 use borrow.Author.Rules.{rules}
 use Rattle.sound.proofs.apart.are_others.Goals as goal
 

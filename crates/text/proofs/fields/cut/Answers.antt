@@ -13,5 +13,8 @@ clear_from-requires c = omega (arith, c.note_cuts-count.ensures.value)
 pub returns : goal.returns
 unfolding cut_table cut_count
 returns c =
-    let noted = c.note_cuts-count.ensures in record { value = noted.value; table_after = c.clear_from.ensures
-          ∙ rw (noted.table_after, c.note_cuts-count.auto.table, noted.value) (padded (length c.args.table.now) (cuts c.args.separator c.args.s.now)) }
+    let noted = c.note_cuts-count.ensures in record {
+      value = noted.value;
+      table_after = c.clear_from.ensures
+          ∙ rw (noted.table_after, c.note_cuts-count.auto.table, noted.value) (padded (length c.args.table.now) (cuts c.args.separator c.args.s.now));
+    }
