@@ -321,8 +321,8 @@ fn is_shaped(point: u8, zlote: &[u8]) -> bool
 
 // Zlote and grosze together.
 fn put_together(zlote: Number, grosze: Number) -> AmountRead
-    requires below { Below (10 ^ 11) zlote }
-    requires below_2 { Below (10 ^ 2) grosze }
+    requires zlote_below { Below (10 ^ 11) zlote }
+    requires grosze_below { Below (10 ^ 2) grosze }
     ensures { result ≡ together zlote grosze }
 {
     let Number::Of(whole) = zlote else {

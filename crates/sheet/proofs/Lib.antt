@@ -6,5 +6,4 @@ pub mod Standing
 pub mod Totalling
 pub mod Planning
 pub mod Filled
-pub mod Walks
 pub mod Examples

@@ -41,7 +41,7 @@ pub fn count_code_points(s: &[u8]) -> usize
 fn past_block(s: &[u8], i: usize) -> usize
     requires { i < length s.now }
     ensures past { Past s.now i result }
-    ensures s_value { result ≡ i → well_formed (drop i s.now) ≡ false }
+    ensures stuck { result ≡ i → well_formed (drop i s.now) ≡ false }
 {
     let n = s.len();
     if n - i < BLOCK {
@@ -65,7 +65,7 @@ fn start_of(b: u8) -> usize
 fn past_characters(s: &[u8], i: usize, e: usize) -> usize
     requires { (i < e) × (e ≤ length s.now) }
     ensures past { Past s.now i result }
-    ensures s_value { result ≡ i → well_formed (drop i s.now) ≡ false }
+    ensures stuck { result ≡ i → well_formed (drop i s.now) ≡ false }
 {
     let mut j = i;
     while j < e {

@@ -13,8 +13,8 @@ returns-in_default-grosze c = rw (c.in-Of.is, c.in_default-grosze.is)
 
 pub overflow_add-sum : goal.overflow_add-sum
 overflow_add-sum c =
-    let zlote = rw c.in-Of.is at c.requires.below in
-    let grosze = rw c.in-Of-grosze.is at c.requires.below_2 in
+    let zlote = rw c.in-Of.is at c.requires.zlote_below in
+    let grosze = rw c.in-Of-grosze.is at c.requires.grosze_below in
     omega arith
 
 pub overflow_mul-sum : goal.overflow_mul-sum

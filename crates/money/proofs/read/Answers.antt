@@ -19,7 +19,7 @@ returns-then-not-is_shaped c =
 pub put_together-requires : goal.put_together-requires
 put_together-requires c =
     let zlote = c.read-zlote in
-    record { below = below_larger zlote.result (tens_rise {j = 11} (omega arith)) zlote.ensures.below; below_2 = c.read-grosze.ensures.below }
+    record { zlote_below = below_larger zlote.result (tens_rise {j = 11} (omega arith)) zlote.ensures.below; grosze_below = c.read-grosze.ensures.below }
 
 pub returns : goal.returns
 returns c =

@@ -11,7 +11,7 @@ pub past_block-j-requires : goal.past_block-j-requires
 past_block-j-requires c = omega arith
 
 pub returns-then-j-i : goal.returns-then-j-i
-returns-then-j-i c = sym (c.past_block-j.ensures.s_value c.if-j-i.true) ∙ c.loop-i.invariant.same
+returns-then-j-i c = sym (c.past_block-j.ensures.stuck c.if-j-i.true) ∙ c.loop-i.invariant.same
 
 pub loop-i-smaller : goal.loop-i-smaller
 loop-i-smaller c = omega arith

@@ -4,4 +4,4 @@ use Rattle.text.proofs.Utf8Places.{past_part}
 use Rattle.text.proofs.utf8.past_block.Goals as goal
 
 pub returns-then-all_ascii : goal.returns-then-all_ascii
-returns-then-all_ascii c = record { past = past_part _ _ _ (omega arith) (omega arith) (c.all_ascii.ensures c.if-all_ascii.true); s_value = λ e. absurd (omega arith) }
+returns-then-all_ascii c = record { past = past_part _ _ _ (omega arith) (omega arith) (c.all_ascii.ensures c.if-all_ascii.true); stuck = λ e. absurd (omega arith) }

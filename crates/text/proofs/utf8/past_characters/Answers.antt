@@ -26,7 +26,7 @@ width_at-w-requires c = omega arith
 
 pub returns-then-w-eq0 : goal.returns-then-w-eq0
 returns-then-w-eq0 c =
-    record { past = past_nothing _ _ (omega arith); s_value = λ e. past_to_fault c.loop-j.invariant (omega arith) (sym c.width_at-w.ensures ∙ c.if-w-eq0.true) }
+    record { past = past_nothing _ _ (omega arith); stuck = λ e. past_to_fault c.loop-j.invariant (omega arith) (sym c.width_at-w.ensures ∙ c.if-w-eq0.true) }
 
 pub overflow_add-result : goal.overflow_add-result
 overflow_add-result c =
@@ -34,7 +34,7 @@ overflow_add-result c =
 
 pub returns-in-loop-j : goal.returns-in-loop-j
 returns-in-loop-j c =
-    let w = c.width_at-w.ensures in record { past = rw w (past_both c.loop-j.invariant (past_character _ _ (omega arith) (λ z. c.if-w-eq0.false (w ∙ z)))); s_value = λ e. absurd (c.if-w-eq0.false (omega (arith, c.loop-j.invariant.onward))) }
+    let w = c.width_at-w.ensures in record { past = rw w (past_both c.loop-j.invariant (past_character _ _ (omega arith) (λ z. c.if-w-eq0.false (w ∙ z)))); stuck = λ e. absurd (c.if-w-eq0.false (omega (arith, c.loop-j.invariant.onward))) }
 
 pub returns : goal.returns
-returns c = record { past = c.loop-j.invariant; s_value = λ e. absurd (omega arith) }
+returns c = record { past = c.loop-j.invariant; stuck = λ e. absurd (omega arith) }
