@@ -68,13 +68,13 @@ module _ (m : List ℕ) (i k : ℕ) (deed : Deed) (number : ℕ) {head : List �
     unpaired-at unpaired = refused_at (asked_no 19 _ _ _ (paired_test ∙ unpaired))
 
     -- "Order number from 1 to the count? 20"
-    module _ (held : paired ≡ true) {n : ℕ} (is-count : n ≡ order_count_in head) {within : Bool} (is_Within : within ≡ between 1 n number) where
+    module _ (held : paired ≡ true) {n : ℕ} (is-count : n ≡ order_count_in head) {within : Bool} (is_within : within ≡ between 1 n number) where
       count_is : n ≡ orders_at m i
       count_is = is-count ∙ orders_are m i k is-head
 
       within-is : between 1 (length s.rows) number ≡ within
       unfolding shipment_in
-      within-is = ap (λ count. between 1 count number) (rows_many m k (orders_at m i) ∙ sym count_is) ∙ sym is_Within
+      within-is = ap (λ count. between 1 count number) (rows_many m k (orders_at m i) ∙ sym count_is) ∙ sym is_within
 
       pub no-order-at : within ≡ false → ActAt m i k (on_order deed number) (Refused 20) m
       unfolding on_order
@@ -83,10 +83,10 @@ module _ (m : List ℕ) (i k : ℕ) (deed : Deed) (number : ℕ) {head : List �
       -- the order is one of the shipment
       module _ (inside : within ≡ true) where
         pub from_one : 1 ≤ number
-        from_one = leb-true 1 number (and_left (leb 1 number) (leb number n) (sym is_Within ∙ inside))
+        from_one = leb-true 1 number (and_left (leb 1 number) (leb number n) (sym is_within ∙ inside))
 
         pub to-count : number ≤ orders_at m i
-        to-count = let below = leb-true number n (and_right (leb 1 number) (leb number n) (sym is_Within ∙ inside)) in omega (arith, count_is)
+        to-count = let below = leb-true number n (and_right (leb 1 number) (leb number n) (sym is_within ∙ inside)) in omega (arith, count_is)
 
         pub row-there : Sits m i k → k + (number - 1) < most_rows
         row-there sits = omega (arith, sits.room, from_one, to-count)

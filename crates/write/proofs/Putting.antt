@@ -49,15 +49,15 @@ module _ (at : ℕ) (first second output : List ℕ) (fits : at + length first +
   pub put_then : put_at (at + length first) second (put_at at first output) ≡ put_at at (first ++ second) output
   put_then =
       let next = at + length first in
-      let from_First = from_put at first output (omega arith) in
+      let from_first = from_put at first output (omega arith) in
       let before : take next (put_at at first output) ≡ take at output ++ first =
       take-add at (length first) (put_at at first output)
-      ∙ (λ i. before_put at first output (omega arith) at (omega arith) i ++ take (length first) (from_First i))
+      ∙ (λ i. before_put at first output (omega arith) at (omega arith) i ++ take (length first) (from_first i))
       ∙ ap (λ (s : List ℕ). take at output ++ s) (take-append_seam first (drop next output)) in
       let behind : drop (next + length second) (put_at at first output) ≡ drop (next + length second) output =
       sym (drop-drop (length second) next (put_at at first output))
       ∙ ap (λ (s : List ℕ). drop (length second) s)
-      (sym (drop-drop (length first) at (put_at at first output)) ∙ ap (λ (s : List ℕ). drop (length first) s) from_First ∙ drop-append_seam first (drop next output))
+      (sym (drop-drop (length first) at (put_at at first output)) ∙ ap (λ (s : List ℕ). drop (length first) s) from_first ∙ drop-append_seam first (drop next output))
       ∙ drop-drop (length second) next output in
       rw (before, behind, all)
       (append_assoc (take at output) first (second ++ drop (next + length second) output)

@@ -5,12 +5,4 @@ use Rattle.contents.proofs.tally.with_order.Goals as goal
 
 pub returns : goal.returns
 unfolding added
-returns c =
-    rw (
-      c.faulty_mark.ensures,
-      c.both-2.ensures,
-      c.both.ensures,
-      c.is_charged-charged.ensures,
-      c.charge_on.ensures,
-      charge_within c.args.terms c.args.order.amount.0,
-    )
+returns c = cc (charge_within c.args.terms c.args.order.amount.0)
