@@ -20,7 +20,7 @@ fn link(folder: &Path, name: &str) {
     println!("cargo:rerun-if-changed={}", archive.display());
     if !archive.is_file() {
         eprintln!(
-            "{} is not there: run 'rt staticlib {name}' in the root of the repository first",
+            "{} is not there: run tools/archives in the root of the repository first",
             archive.display()
         );
         exit(1);
