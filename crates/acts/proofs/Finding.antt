@@ -45,9 +45,9 @@ module _ (is : List ℕ → Bool) (m : List ℕ) where
 
 -- as code looks: head after head
 module _ (is : List ℕ → Bool) (m : List ℕ) {head : List ℕ} {t : Bool} (i k left : ℕ)
-    (is-head : head ≡ head_bytes m i) (told : t ≡ is head) (more : 0 < left) where
+    (is_head : head ≡ head_bytes m i) (told : t ≡ is head) (more : 0 < left) where
   test_is : is (head_bytes m i) ≡ t
-  test_is = sym (told ∙ ap is is-head)
+  test_is = sym (told ∙ ap is is_head)
 
   pub found_here : t ≡ true → place_from is m i k left ≡ At i k
   unfolding place_from
@@ -62,7 +62,7 @@ module _ (is : List ℕ → Bool) (m : List ℕ) {head : List ℕ} {t : Bool} (i
   looked_on {n} orders other = by left more
     where
       count : n ≡ orders_at m i
-      count = orders ∙ ap order_count_in is-head
+      count = orders ∙ ap order_count_in is_head
 
       by : (left : ℕ) → 0 < left → place_from is m (i + 1) (k + n) (left - 1) ≡ place_from is m i k left
       by zero h = absurd (omega arith)

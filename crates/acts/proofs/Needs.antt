@@ -36,12 +36,12 @@ pub neither : (t u : Bool) → (not t && not u) ≡ not (t || u)
 neither true u = refl
 neither false u = refl
 
-module _ (m : List ℕ) (i k : ℕ) (sits : Sits m i k) {head : List ℕ} (is-head : head ≡ head_bytes m i) {n : ℕ} (is-count : n ≡ order_count_in head) where
+module _ (m : List ℕ) (i k : ℕ) (sits : Sits m i k) {head : List ℕ} (is_head : head ≡ head_bytes m i) {n : ℕ} (is_count : n ≡ order_count_in head) where
   abbrev s : Shipment
   s = shipment_at m i k
 
   count_is : n ≡ orders_at m i
-  count_is = is-count ∙ orders_are m i k is-head
+  count_is = is_count ∙ orders_are m i k is_head
 
   pub room_at : k + n ≤ most_rows
   room_at = omega (arith, count_is, sits.room)
@@ -59,7 +59,7 @@ module _ (m : List ℕ) (i k : ℕ) (sits : Sits m i k) {head : List ℕ} (is-he
 
   pub rows_waiting : {waiting : Bool} → waiting ≡ is_waiting (stage_in head) → waiting ≡ true → SoundInWaiting (rows_from m k n)
   rows_waiting is-waiting held =
-      let here = sym (is-waiting ∙ waiting_is m i k is-head) ∙ held in
+      let here = sym (is-waiting ∙ waiting_is m i k is_head) ∙ held in
       let terms = s.agreed.terms in
       record {
         terms = terms;

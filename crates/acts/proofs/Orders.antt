@@ -34,7 +34,7 @@ use Rattle.acts.specs.Inner.Place.{ActAt}
 use Rattle.acts.specs.declared.order.Handling.TheVariants.{Handled}
 use Rattle.acts.proofs.RowLaws.{row_at, rows_set}
 use Rattle.memory.proofs.HeadFields.{orders_are, paired_is}
-use Rattle.acts.proofs.ShipmentChanged.{refused_at, rows-changed}
+use Rattle.acts.proofs.ShipmentChanged.{refused_at, rows_changed}
 
 becomes_in_range : (deed : Deed) → fault_in_range (becomes deed) ≡ true
 becomes_in_range Post = refl
@@ -54,76 +54,76 @@ handled_says Pay row = refl
 handled_says MarkUndelivered row = refl
 handled_says Withdraw row = refl
 
-module _ (m : List ℕ) (i k : ℕ) (deed : Deed) (number : ℕ) {head : List ℕ} (is-head : head ≡ head_bytes m i) where
+module _ (m : List ℕ) (i k : ℕ) (deed : Deed) (number : ℕ) {head : List ℕ} (is_head : head ≡ head_bytes m i) where
   abbrev s : Shipment
   s = shipment_at m i k
 
   -- "Paired? 19"
   module _ {paired : Bool} (is-paired : paired ≡ is_paired (stage_in head)) where
     paired_test : is_paired s.stage ≡ paired
-    paired_test = sym (is-paired ∙ paired_is m i k is-head)
+    paired_test = sym (is-paired ∙ paired_is m i k is_head)
 
-    pub unpaired-at : paired ≡ false → ActAt m i k (on_order deed number) (Refused 19) m
+    pub unpaired_at : paired ≡ false → ActAt m i k (on_order deed number) (Refused 19) m
     unfolding on_order
-    unpaired-at unpaired = refused_at (asked_no 19 _ _ _ (paired_test ∙ unpaired))
+    unpaired_at unpaired = refused_at (asked_no 19 _ _ _ (paired_test ∙ unpaired))
 
     -- "Order number from 1 to the count? 20"
-    module _ (held : paired ≡ true) {n : ℕ} (is-count : n ≡ order_count_in head) {within : Bool} (is_within : within ≡ between 1 n number) where
+    module _ (held : paired ≡ true) {n : ℕ} (is_count : n ≡ order_count_in head) {within : Bool} (is_within : within ≡ between 1 n number) where
       count_is : n ≡ orders_at m i
-      count_is = is-count ∙ orders_are m i k is-head
+      count_is = is_count ∙ orders_are m i k is_head
 
-      within-is : between 1 (length s.rows) number ≡ within
+      within_is : between 1 (length s.rows) number ≡ within
       unfolding shipment_in
-      within-is = ap (λ count. between 1 count number) (rows_many m k (orders_at m i) ∙ sym count_is) ∙ sym is_within
+      within_is = ap (λ count. between 1 count number) (rows_many m k (orders_at m i) ∙ sym count_is) ∙ sym is_within
 
-      pub no-order-at : within ≡ false → ActAt m i k (on_order deed number) (Refused 20) m
+      pub no_order_at : within ≡ false → ActAt m i k (on_order deed number) (Refused 20) m
       unfolding on_order
-      no-order-at outside = refused_at (asked_yes 19 _ _ _ (paired_test ∙ held) ∙ asked_no 20 _ _ _ (within-is ∙ outside))
+      no_order_at outside = refused_at (asked_yes 19 _ _ _ (paired_test ∙ held) ∙ asked_no 20 _ _ _ (within_is ∙ outside))
 
       -- the order is one of the shipment
       module _ (inside : within ≡ true) where
         pub from_one : 1 ≤ number
         from_one = leb-true 1 number (and_left (leb 1 number) (leb number n) (sym is_within ∙ inside))
 
-        pub to-count : number ≤ orders_at m i
-        to-count = let below = leb-true number n (and_right (leb 1 number) (leb number n) (sym is_within ∙ inside)) in omega (arith, count_is)
+        pub to_count : number ≤ orders_at m i
+        to_count = let below = leb-true number n (and_right (leb 1 number) (leb number n) (sym is_within ∙ inside)) in omega (arith, count_is)
 
-        pub row-there : Sits m i k → k + (number - 1) < most_rows
-        row-there sits = omega (arith, sits.room, from_one, to-count)
+        pub row_there : Sits m i k → k + (number - 1) < most_rows
+        row_there sits = omega (arith, sits.room, from_one, to_count)
 
         order_is : order_at number s ≡ row_of (row_bytes m (k + (number - 1)))
         unfolding shipment_in
-        order_is = row_at m k (orders_at m i) (number - 1) no_order (omega (arith, from_one, to-count))
+        order_is = row_at m k (orders_at m i) (number - 1) no_order (omega (arith, from_one, to_count))
 
         -- "State fits? 21"
-        module _ {state : State} (state-is : state ≡ (row_of (row_bytes m (k + (number - 1)))).state) {fitting : Bool} (is-fitting : fitting ≡ fits deed state) where
-          fitting-is : fits deed (order_at number s).state ≡ fitting
-          fitting-is = ap (λ (order : Row). fits deed order.state) order_is ∙ sym (is-fitting ∙ ap (fits deed) state-is)
+        module _ {state : State} (state_is : state ≡ (row_of (row_bytes m (k + (number - 1)))).state) {fitting : Bool} (is_fitting : fitting ≡ fits deed state) where
+          fitting_is : fits deed (order_at number s).state ≡ fitting
+          fitting_is = ap (λ (order : Row). fits deed order.state) order_is ∙ sym (is_fitting ∙ ap (fits deed) state_is)
 
-          pub unfit-at : fitting ≡ false → ActAt m i k (on_order deed number) (Refused 21) m
+          pub unfit_at : fitting ≡ false → ActAt m i k (on_order deed number) (Refused 21) m
           unfolding on_order
-          unfit-at unfit =
+          unfit_at unfit =
               refused_at
-              (asked_yes 19 _ _ _ (paired_test ∙ held) ∙ asked_yes 20 _ _ _ (within-is ∙ inside) ∙ asked_no 21 _ _ _ (fitting-is ∙ unfit))
+              (asked_yes 19 _ _ _ (paired_test ∙ held) ∙ asked_yes 20 _ _ _ (within_is ∙ inside) ∙ asked_no 21 _ _ _ (fitting_is ∙ unfit))
 
-          pub handled-at : (sits : Sits m i k) {fee : Fee} {amount : Amount} → fee ≡ (row_of (row_bytes m (k + (number - 1)))).fee
+          pub handled_at : (sits : Sits m i k) {fee : Fee} {amount : Amount} → fee ≡ (row_of (row_bytes m (k + (number - 1)))).fee
               → amount ≡ (row_of (row_bytes m (k + (number - 1)))).amount → fitting ≡ true
               → ActAt m i k (on_order deed number) (handling_of deed (Handled fee amount)) (with_code_at m (k + (number - 1)) (code_of (becomes deed)))
           unfolding on_order shipment_in
-          handled-at sits {fee} {amount} fee-is amount-is fit =
+          handled_at sits {fee} {amount} fee_is amount_is fit =
               let at = k + (number - 1) in
               let stored = code_stored m at (code_of (becomes deed)) in
-              let there = row-there sits in
+              let there = row_there sits in
               let new = stored.row there sits.enough ∙ ap (λ state. with_state state (row_of (row_bytes m at))) (state_is_read_back (becomes deed) (becomes_in_range deed)) in
-              rows-changed (handled_taken deed fee amount) sits.few
-              (row_among k (orders_at m i) (omega arith) (omega (arith, from_one, to-count)) (stored.only there))
-              (rows_set m _ k (orders_at m i) (number - 1) (omega (arith, from_one, to-count)) (λ r from below. (stored.only there).other_rows r (omega (arith, sits.room)))
+              rows_changed (handled_taken deed fee amount) sits.few
+              (row_among k (orders_at m i) (omega arith) (omega (arith, from_one, to_count)) (stored.only there))
+              (rows_set m _ k (orders_at m i) (number - 1) (omega (arith, from_one, to_count)) (λ r from below. (stored.only there).other_rows r (omega (arith, sits.room)))
               ∙ ap (set (rows_from m k (orders_at m i)) (number - 1)) (new ∙ ap (with_state (becomes deed)) (sym order_is)))
               (asked_yes 19 _ _ _ (paired_test ∙ held)
-              ∙ asked_yes 20 _ _ _ (within-is ∙ inside)
-              ∙ asked_yes 21 _ _ _ (fitting-is ∙ fit)
+              ∙ asked_yes 20 _ _ _ (within_is ∙ inside)
+              ∙ asked_yes 21 _ _ _ (fitting_is ∙ fit)
               ∙ asked_none _ _
               ∙ ap (λ answer. leave answer (with_rows (set s.rows (number - 1) (with_state (becomes deed) (order_at number s))) s))
               (handled_says deed (order_at number s)
               ∙ ap (λ (order : Row). handling_of deed (Handled order.fee order.amount)) order_is
-              ∙ (λ t. handling_of deed (Handled (sym fee-is t) (sym amount-is t)))))
+              ∙ (λ t. handling_of deed (Handled (sym fee_is t) (sym amount_is t)))))

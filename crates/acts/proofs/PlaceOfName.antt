@@ -68,24 +68,24 @@ module _ (name : Name) (m : List ℕ) where
     placed : {place' : Place} → place ≡ place' → place_from called m 0 0 (shipments_in m) ≡ place'
     placed same = ap (place_from called m 0 0) (sym count) ∙ sym looked ∙ same
 
-    pub named-unsound : place ≡ Unsound → Unsound ≡ place_in named m
-    named-unsound same = absurd (never_unsound called m 0 0 (shipments_in m) (placed same))
+    pub named_unsound : place ≡ Unsound → Unsound ≡ place_in named m
+    named_unsound same = absurd (never_unsound called m 0 0 (shipments_in m) (placed same))
 
-    pub named-unknown : place ≡ Unknown → Unknown ≡ place_in named m
+    pub named_unknown : place ≡ Unknown → Unknown ≡ place_in named m
     unfolding place_in
-    named-unknown same = rw held (sym (none_named 0 0 (shipments_in m) (placed same)))
+    named_unknown same = rw held (sym (none_named 0 0 (shipments_in m) (placed same)))
 
-    module _ {i k : ℕ} (same : place ≡ At i k) {head : List ℕ} {t : Bool} (is-head : head ≡ head_bytes m i) (told : t ≡ named head) where
-      found-called : Found called m i k 0 0 (shipments_in m)
-      found-called = found called m i k 0 0 (shipments_in m) (placed same)
+    module _ {i k : ℕ} (same : place ≡ At i k) {head : List ℕ} {t : Bool} (is_head : head ≡ head_bytes m i) (told : t ≡ named head) where
+      found_called : Found called m i k 0 0 (shipments_in m)
+      found_called = found called m i k 0 0 (shipments_in m) (placed same)
 
-      name-is : named (head_bytes m i) ≡ t
-      name-is = sym (told ∙ ap named is-head)
+      name_is : named (head_bytes m i) ≡ t
+      name_is = sym (told ∙ ap named is_head)
 
-      pub named-at : t ≡ true → At i k ≡ place_in named m
+      pub named_at : t ≡ true → At i k ≡ place_in named m
       unfolding place_in
-      named-at fits = rw held (sym (first_named found-called (name-is ∙ fits)))
+      named_at fits = rw held (sym (first_named found_called (name_is ∙ fits)))
 
       pub named_other : t ≡ false → Unknown ≡ place_in named m
       unfolding place_in book_in
-      named_other differs = rw held (sym (first_other found-called (name-is ∙ differs) (sound_parts m held).shipments))
+      named_other differs = rw held (sym (first_other found_called (name_is ∙ differs) (sound_parts m held).shipments))

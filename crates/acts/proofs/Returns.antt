@@ -30,7 +30,7 @@ use Rattle.memory.specs.Rows.{code_in, row_of}
 use Rattle.memory.specs.Heads.{terms_in, stage_in, order_count_in, shipment_in}
 use Rattle.memory.specs.Read.{rows_from, orders_at, shipment_at, Sits}
 use Rattle.memory.specs.Inner.Returns.{WaitTable}
-use Rattle.memory.proofs.ReturnLaws.{row-returned}
+use Rattle.memory.proofs.ReturnLaws.{row_returned}
 use Rattle.acts.specs.Inner.Place.{ActAt}
 use Rattle.acts.specs.Inner.Waits.{worth_waiting, fees_wait_in_vain, waits_in_vain, RowCleared, RowsReturned, Cleared}
 use Rattle.acts.specs.declared.route.Taken.{Taken}
@@ -38,7 +38,7 @@ use Rattle.acts.specs.declared.route.Waits.{Waits}
 use Rattle.acts.proofs.RowsInTurn.{none_stored, one_more_stored}
 use Rattle.acts.proofs.RowLaws.{rows_mapped}
 use Rattle.memory.proofs.HeadFields.{orders_are, terms_are, paired_is}
-use Rattle.acts.proofs.ShipmentChanged.{refused_at, rows-changed}
+use Rattle.acts.proofs.ShipmentChanged.{refused_at, rows_changed}
 
 -- a wait is at most 2, and counts as often as it adds to the byte of state
 pub twice_at_most : (n times : ℕ) → times ≤ 2 → n * times ≤ 2 * n
@@ -86,20 +86,20 @@ pub one_more_waits : (route : Route) (money : Money) (m : List ℕ) (k n : ℕ) 
     → taken ≡ only_if (waits_on route money (row_of (row_bytes m (k + n)))) (by_money money 1 2)
     → after ≡ before + worth money (row_of (row_bytes m (k + n))) * taken
     → after ≡ worth_waiting route money (rows_from m k (n + 1)) * by_money money 1 2
-one_more_waits route money m k n {before} before-is took added =
+one_more_waits route money m k n {before} before_is took added =
     let row = row_of (row_bytes m (k + n)) in
     let waits = waits_on route money row in
     added
     ∙ ap (λ n. before + worth money row * n) took
-    ∙ ap (λ n. n + worth money row * only_if waits (by_money money 1 2)) before-is
+    ∙ ap (λ n. n + worth money row * only_if waits (by_money money 1 2)) before_is
     ∙ one_more_worth money waits _ (worth money row)
     ∙ ap (λ n. n * by_money money 1 2) (sum_more m (λ row. only_if (waits_on route money row) (worth money row)) k n)
 
 -- the table says as much of a row's byte of state
-module _ {route : Route} {money : Money} {table : List ℕ} (is-table : WaitTable route money table) (m : List ℕ) (k : ℕ) {code : ℕ}
+module _ {route : Route} {money : Money} {table : List ℕ} (is_table : WaitTable route money table) (m : List ℕ) (k : ℕ) {code : ℕ}
     (code_is : code ≡ code_in (row_bytes m k)) (byte : code < 256) where
   pub wait_told : k < most_rows → size ≤ length m → get_or table code 0 ≡ only_if (waits_on route money (row_of (row_bytes m k))) (by_money money 1 2)
-  wait_told there enough = (row-returned route money table is-table code byte m k there enough code_is).took
+  wait_told there enough = (row_returned route money table is_table code byte m k there enough code_is).took
 
 -- rows returned one after the other
 abbrev orders_waiting : Route → Money → List Row → ℕ
@@ -143,9 +143,9 @@ module _ {route : Route} {money : Money} {k : ℕ} where
 
 -- all rows of the shipment at a place, and what they come to once each wait counts as one
 module _ {route : Route} {money : Money} (m : List ℕ) (i k : ℕ) {wait : ℕ} {m' : List ℕ} {taken : Taken}
-    (all : Clearing route money k (orders_at m i) m m' taken) (wait-is : wait ≡ by_money money 1 2) where
+    (all : Clearing route money k (orders_at m i) m m' taken) (wait_is : wait ≡ by_money money 1 2) where
   once : (x y : ℕ) → x ≡ y * by_money money 1 2 → x / wait ≡ y
-  once x y is = ap (λ w. x / w) wait-is ∙ ap (λ x. x / by_money money 1 2) is ∙ counted_once money y
+  once x y is = ap (λ w. x / w) wait_is ∙ ap (λ x. x / by_money money 1 2) is ∙ counted_once money y
 
   pub worth_is : taken.worth / wait ≡ waiting route money (shipment_at m i k)
   unfolding waiting shipment_in
@@ -186,7 +186,7 @@ module _ (route : Route) (s : Shipment) where
   flat_above : fees_wait_in_vain route s ≡ false → waiting route O s ≡ 0 → 1 ≤ s.agreed.terms.flat.0
   flat_above h none =
       either_way (eqb s.agreed.terms.flat.0 0)
-      (λ zero-flat. absurd (false≢true (sym h ∙ both_yes _ _ zero-flat (eq-eqb (waiting route O s) 0 none))))
+      (λ zero_flat. absurd (false≢true (sym h ∙ both_yes _ _ zero_flat (eq-eqb (waiting route O s) 0 none))))
       (λ above. let some = eqb-false s.agreed.terms.flat.0 0 above in omega arith)
 
   least : (money : Money) → waits_in_vain route money s ≡ false → waiting route money s ≡ 0 → (row : Row)
@@ -210,88 +210,88 @@ module _ (route : Route) (s : Shipment) where
       by true n some none = absurd (omega arith)
       by false n some none = refl
 
-module _ (m : List ℕ) (i k : ℕ) {head : List ℕ} (is-head : head ≡ head_bytes m i) where
+module _ (m : List ℕ) (i k : ℕ) {head : List ℕ} (is_head : head ≡ head_bytes m i) where
   abbrev s : Shipment
   s = shipment_at m i k
 
   -- what the head says of the number of orders, and of the flat part
   pub count_at : {n : ℕ} → n ≡ order_count_in head → n ≡ orders_at m i
-  count_at is = is ∙ orders_are m i k is-head
+  count_at is = is ∙ orders_are m i k is_head
 
-  module _ (route : Route) {terms : Terms} (terms-is : terms ≡ terms_in head) where
-    flat-is : terms.flat.0 ≡ s.agreed.terms.flat.0
-    flat-is = ap (λ (t : Terms). t.flat.0) (terms-is ∙ terms_are m i k is-head)
+  module _ (route : Route) {terms : Terms} (terms_is : terms ≡ terms_in head) where
+    flat_is : terms.flat.0 ≡ s.agreed.terms.flat.0
+    flat_is = ap (λ (t : Terms). t.flat.0) (terms_is ∙ terms_are m i k is_head)
 
-    pub none-in-vain : (terms.flat.0 ≡ 0 → ⊥) → eqb terms.flat.0 0 ≡ fees_wait_in_vain route s
-    none-in-vain above =
+    pub none_in_vain : (terms.flat.0 ≡ 0 → ⊥) → eqb terms.flat.0 0 ≡ fees_wait_in_vain route s
+    none_in_vain above =
         let not_zero = ne_eqb terms.flat.0 0 above in
-        not_zero ∙ ap (λ t. t && eqb (waiting route O s) 0) (sym not_zero ∙ ap (λ n. eqb n 0) flat-is)
+        not_zero ∙ ap (λ t. t && eqb (waiting route O s) 0) (sym not_zero ∙ ap (λ n. eqb n 0) flat_is)
 
-    pub sum-in-vain : {n sum : ℕ} → terms.flat.0 ≡ 0 → n ≡ order_count_in head → sum ≡ worth_waiting route O (rows_from m k n) * 2
+    pub sum_in_vain : {n sum : ℕ} → terms.flat.0 ≡ 0 → n ≡ order_count_in head → sum ≡ worth_waiting route O (rows_from m k n) * 2
         → eqb sum 0 ≡ fees_wait_in_vain route s
     unfolding waiting shipment_in
-    sum-in-vain {n} {sum} none is-count sum_is =
+    sum_in_vain {n} {sum} none is_count sum_is =
         let waits = worth_waiting route O (rows_from m k (orders_at m i)) in
-        let twice : sum ≡ waits * 2 = sum_is ∙ ap (λ n. worth_waiting route O (rows_from m k n) * 2) (count_at is-count) in
+        let twice : sum ≡ waits * 2 = sum_is ∙ ap (λ n. worth_waiting route O (rows_from m k n) * 2) (count_at is_count) in
         both_ways (eqb sum 0) (eqb waits 0)
-        (λ yes-sum. eq-eqb waits 0 (omega (arith, eqb-true sum 0 yes-sum)))
-        (λ yes-waits. eq-eqb sum 0 (omega (arith, eqb-true waits 0 yes-waits)))
-        ∙ ap (λ t. t && eqb waits 0) (sym (eq-eqb terms.flat.0 0 none) ∙ ap (λ n. eqb n 0) flat-is)
+        (λ yes_sum. eq-eqb waits 0 (omega (arith, eqb-true sum 0 yes_sum)))
+        (λ yes_waits. eq-eqb sum 0 (omega (arith, eqb-true waits 0 yes_waits)))
+        ∙ ap (λ t. t && eqb waits 0) (sym (eq-eqb terms.flat.0 0 none) ∙ ap (λ n. eqb n 0) flat_is)
 
   -- "Paired? 19"
   module _ (route : Route) (money : Money) {paired : Bool} (is-paired : paired ≡ is_paired (stage_in head)) where
     paired_test : is_paired s.stage ≡ paired
-    paired_test = sym (is-paired ∙ paired_is m i k is-head)
+    paired_test = sym (is-paired ∙ paired_is m i k is_head)
 
-    pub unpaired-at : paired ≡ false → ActAt m i k (returned_by route money) (Refused 19) m
+    pub unpaired_at : paired ≡ false → ActAt m i k (returned_by route money) (Refused 19) m
     unfolding returned_by
-    unpaired-at unpaired = refused_at (asked_no 19 _ _ _ (paired_test ∙ unpaired))
+    unpaired_at unpaired = refused_at (asked_no 19 _ _ _ (paired_test ∙ unpaired))
 
     -- "Not ZPR with O? 22"
-    module _ (held : paired ≡ true) {barred : Bool} (is-barred : barred ≡ is_zpr_with_o route money) where
-      pub undelivered-fee-at : barred ≡ true → ActAt m i k (returned_by route money) (Refused 22) m
+    module _ (held : paired ≡ true) {barred : Bool} (is_barred : barred ≡ is_zpr_with_o route money) where
+      pub undelivered_fee_at : barred ≡ true → ActAt m i k (returned_by route money) (Refused 22) m
       unfolding returned_by
-      undelivered-fee-at fee = refused_at (asked_yes 19 _ _ _ (paired_test ∙ held) ∙ asked_no 22 _ _ _ (ap not (sym is-barred ∙ fee)))
+      undelivered_fee_at fee = refused_at (asked_yes 19 _ _ _ (paired_test ∙ held) ∙ asked_no 22 _ _ _ (ap not (sym is_barred ∙ fee)))
 
       -- "Anything above zero to return? 23"
       module _ (free : barred ≡ false) where
-        nothing-to-return : waiting route money s ≡ 0 → ActAt m i k (returned_by route money) (Refused 23) m
+        nothing_to_return : waiting route money s ≡ 0 → ActAt m i k (returned_by route money) (Refused 23) m
         unfolding returned_by
-        nothing-to-return nothing =
+        nothing_to_return nothing =
             refused_at
             (asked_yes 19 _ _ _ (paired_test ∙ held)
-            ∙ asked_yes 22 _ _ _ (ap not (sym is-barred ∙ free))
+            ∙ asked_yes 22 _ _ _ (ap not (sym is_barred ∙ free))
             ∙ asked_no 23 _ _ _ (ap (ltb 0) nothing))
 
-        pub waiting-within : Sits m i k → WithinSum (waiting route money s)
-        waiting-within sits =
+        pub waiting_within : Sits m i k → WithinSum (waiting route money s)
+        waiting_within sits =
             let moneys = (in_order s sits.sound).moneys money in
             let all_needed = only_if_true (is_paired s.stage) (need money s) (paired_test ∙ held) in
             omega (arith, waits_below route money s, all_needed, moneys.covered, moneys.accepted_fits)
 
-        module _ {vain : Bool} (is-vain : vain ≡ waits_in_vain route money s) where
-          pub worthless-at : vain ≡ true → ActAt m i k (returned_by route money) (Refused 23) m
-          worthless-at h = nothing-to-return (worthless route money s (sym is-vain ∙ h))
+        module _ {vain : Bool} (is_vain : vain ≡ waits_in_vain route money s) where
+          pub worthless_at : vain ≡ true → ActAt m i k (returned_by route money) (Refused 23) m
+          worthless_at h = nothing_to_return (worthless route money s (sym is_vain ∙ h))
 
-          module _ (worth-it : vain ≡ false) (sits : Sits m i k) {m' : List ℕ} {found : Waits} (cleared : Cleared route money i k m m' found) where
+          module _ (worth_it : vain ≡ false) (sits : Sits m i k) {m' : List ℕ} {found : Waits} (cleared : Cleared route money i k m m' found) where
             sum_is : waiting route money s ≡ grosze_in found.sum
             sum_is = sym (grosze_is money _ cleared.sum)
 
-            pub nothing-at : grosze_in found.sum ≡ 0 → ActAt m i k (returned_by route money) (Refused 23) m'
+            pub nothing_at : grosze_in found.sum ≡ 0 → ActAt m i k (returned_by route money) (Refused 23) m'
             unfolding waiting waiting_orders
-            nothing-at nothing =
+            nothing_at nothing =
                 let sound = (in_order s sits.sound).rows_sound in
-                let some = least route s money (sym is-vain ∙ worth-it) (sum_is ∙ nothing) in
-                let no-order = unwaited route s money some s.rows sound (sum_is ∙ nothing) in
-                rw (cleared.still (cleared.count ∙ no-order)) (nothing-to-return (sum_is ∙ nothing))
+                let some = least route s money (sym is_vain ∙ worth_it) (sum_is ∙ nothing) in
+                let no_order = unwaited route s money some s.rows sound (sum_is ∙ nothing) in
+                rw (cleared.still (cleared.count ∙ no_order)) (nothing_to_return (sum_is ∙ nothing))
 
-            pub returned-at : 0 < grosze_in found.sum → ActAt m i k (returned_by route money) (Returned (grosze_in found.sum) found.count) m'
+            pub returned_at : 0 < grosze_in found.sum → ActAt m i k (returned_by route money) (Returned (grosze_in found.sum) found.count) m'
             unfolding returned_by shipment_in
-            returned-at some =
+            returned_at some =
                 let all = cleared.returned in
-                rows-changed refl sits.few all.only (rows_mapped m _ (after_return route money) k (orders_at m i) all.rows)
+                rows_changed refl sits.few all.only (rows_mapped m _ (after_return route money) k (orders_at m i) all.rows)
                 (asked_yes 19 _ _ _ (paired_test ∙ held)
-                ∙ asked_yes 22 _ _ _ (ap not (sym is-barred ∙ free))
+                ∙ asked_yes 22 _ _ _ (ap not (sym is_barred ∙ free))
                 ∙ asked_yes 23 _ _ _ (ap (ltb 0) sum_is ∙ lt-ltb 0 (grosze_in found.sum) some)
                 ∙ asked_none _ _
                 ∙ ap (λ answer. leave answer (with_rows (map (after_return route money) s.rows) s)) (λ t. Returned (sum_is t) (sym cleared.count t)))

@@ -41,9 +41,9 @@ some_join a b =
 faulty_by_byte : (terms : Terms) (row : Row) (code : ℕ) → code < 256 → row_sound terms Waiting row ≡ true → state_of code ≡ row.state
     → is_faulty row.state ≡ ltb 0 code
 unfolding row_sound
-faulty_by_byte terms row code byte sound state-is =
+faulty_by_byte terms row code byte sound state_is =
     let before = and_right (row_charged terms row) (fault_in_range row.state && before_pairing row.state) sound in
-    ap is_faulty (sym state-is) ∙ faulty_by_code code byte (ap (λ state. fault_in_range state && before_pairing state) state-is ∙ before)
+    ap is_faulty (sym state_is) ∙ faulty_by_code code byte (ap (λ state. fault_in_range state && before_pairing state) state_is ∙ before)
 
 module _ {m : List ℕ} {k n : ℕ} where
   pub looking_begun : SoundInWaiting (rows_from m k n) → Looking m k n 0 k n
@@ -53,16 +53,16 @@ module _ {m : List ℕ} {k n : ℕ} where
     abbrev found : Bool
     found = ltb 0 bits
 
-    pub looking-on : (code : ℕ) → 0 < left → state_of code ≡ (row_of (row_bytes m i)).state → code < 256
+    pub looking_on : (code : ℕ) → 0 < left → state_of code ≡ (row_of (row_bytes m i)).state → code < 256
         → Looking m k n (bit_or bits code) (i + 1) (left - 1)
     unfolding rows_sound any_faulty
-    looking-on code more state-is byte =
+    looking_on code more state_is byte =
         let here = row_of (row_bytes m i) in
         let rest = rows_from m (i + 1) (left - 1) in
         let terms = going.sound.terms in
         let sound : (row_sound terms Waiting here && rows_sound terms Waiting rest) ≡ true
         = ap (rows_sound terms Waiting) (sym (rows_on m i left more)) ∙ going.sound.is in
-        let faulty = faulty_by_byte terms here code byte (and_left (row_sound terms Waiting here) (rows_sound terms Waiting rest) sound) state-is in
+        let faulty = faulty_by_byte terms here code byte (and_left (row_sound terms Waiting here) (rows_sound terms Waiting rest) sound) state_is in
         record {
           place = omega arith;
           sound = record { terms = terms; is = and_right (row_sound terms Waiting here) (rows_sound terms Waiting rest) sound };
@@ -72,6 +72,6 @@ module _ {m : List ℕ} {k n : ℕ} where
               ∙ going.faults;
         }
 
-    pub looking-done : left ≤ 0 → ltb 0 bits ≡ any_faulty (rows_from m k n)
+    pub looking_done : left ≤ 0 → ltb 0 bits ≡ any_faulty (rows_from m k n)
     unfolding any_faulty
-    looking-done done = sym (or-false found) ∙ ap (λ rows. found || any_faulty rows) (sym (rows_done m i left done)) ∙ going.faults
+    looking_done done = sym (or-false found) ∙ ap (λ rows. found || any_faulty rows) (sym (rows_done m i left done)) ∙ going.faults

@@ -19,40 +19,40 @@ use Rattle.memory.specs.Inner.Stored.{with_stage_at, with_transfers_at}
 use Rattle.acts.specs.Inner.Place.{ActAt}
 use Rattle.memory.proofs.HeadFields.{waiting_is, accepted_is}
 use Rattle.acts.proofs.ShipmentChanged.{refused_at}
-use Rattle.acts.proofs.HeadActs.{stage-changed, accepted-changed}
+use Rattle.acts.proofs.HeadActs.{stage_changed, accepted_changed}
 
-module _ (m : List ℕ) (i k : ℕ) (sits : Sits m i k) {head : List ℕ} (is-head : head ≡ head_bytes m i) where
+module _ (m : List ℕ) (i k : ℕ) (sits : Sits m i k) {head : List ℕ} (is_head : head ≡ head_bytes m i) where
   abbrev s : Shipment
   s = shipment_at m i k
 
   -- "Total accepted for that money still at most 9,999,999,999,999? 14"
-  module _ (money : Money) (amount : ℕ) {before : ℕ} (is-before : before ≡ transfers_in money head) where
-    before-is : before ≡ accepted money s
-    before-is = is-before ∙ accepted_is m i k is-head money
+  module _ (money : Money) (amount : ℕ) {before : ℕ} (is_before : before ≡ transfers_in money head) where
+    before_is : before ≡ accepted money s
+    before_is = is_before ∙ accepted_is m i k is_head money
 
-    total-is : is_sum (accepted money s + amount) ≡ is_sum (before + amount)
-    total-is = ap (λ n. is_sum (n + amount)) (sym before-is)
+    total_is : is_sum (accepted money s + amount) ≡ is_sum (before + amount)
+    total_is = ap (λ n. is_sum (n + amount)) (sym before_is)
 
-    pub too-much-at : is_sum (before + amount) ≡ false → ActAt m i k (transferred money amount) (Refused 14) m
+    pub too_much_at : is_sum (before + amount) ≡ false → ActAt m i k (transferred money amount) (Refused 14) m
     unfolding transferred
-    too-much-at over = refused_at (asked_no 14 _ _ _ (total-is ∙ over))
+    too_much_at over = refused_at (asked_no 14 _ _ _ (total_is ∙ over))
 
-    pub transferred-at : is_sum (before + amount) ≡ true
+    pub transferred_at : is_sum (before + amount) ≡ true
         → ActAt m i k (transferred money amount) Done (with_transfers_at m i money (before + amount))
     unfolding transferred
-    transferred-at within =
+    transferred_at within =
         let low = leb-true (before + amount) sum_cap within in
-        rw before-is (accepted-changed sits refl money amount (omega (arith, before-is)) (asked_yes 14 _ _ _ (total-is ∙ within) ∙ asked_none _ _))
+        rw before_is (accepted_changed sits refl money amount (omega (arith, before_is)) (asked_yes 14 _ _ _ (total_is ∙ within) ∙ asked_none _ _))
 
   -- "Waiting? 15"
   module _ {waiting : Bool} (is-waiting : waiting ≡ is_waiting (stage_in head)) where
-    waiting-test : is_waiting s.stage ≡ waiting
-    waiting-test = sym (is-waiting ∙ waiting_is m i k is-head)
+    waiting_test : is_waiting s.stage ≡ waiting
+    waiting_test = sym (is-waiting ∙ waiting_is m i k is_head)
 
-    pub not-closed-at : waiting ≡ false → ActAt m i k closed (Refused 15) m
+    pub not_closed_at : waiting ≡ false → ActAt m i k closed (Refused 15) m
     unfolding closed
-    not-closed-at other = refused_at (asked_no 15 _ _ _ (waiting-test ∙ other))
+    not_closed_at other = refused_at (asked_no 15 _ _ _ (waiting_test ∙ other))
 
     pub closed_at : waiting ≡ true → ActAt m i k closed Done (with_stage_at m i Closed)
     unfolding closed
-    closed_at held = stage-changed sits refl Closed (asked_yes 15 _ _ _ (waiting-test ∙ held) ∙ asked_none _ _)
+    closed_at held = stage_changed sits refl Closed (asked_yes 15 _ _ _ (waiting_test ∙ held) ∙ asked_none _ _)

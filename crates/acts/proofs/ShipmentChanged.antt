@@ -31,10 +31,10 @@ module _ {m : List ℕ} {i k : ℕ} {does : Shipment → Outcome} where
   refused_at = left_at
 
   module _ {m' : List ℕ} {answer : Answer} (taken : changes_nothing answer ≡ false) where
-    pub head-changed : {t : Shipment} → k + orders_at m i ≤ most_rows → OnlyHead i m m' → shipment_in (head_bytes m' i) (rows_from m k (orders_at m i)) ≡ t
+    pub head_changed : {t : Shipment} → k + orders_at m i ≤ most_rows → OnlyHead i m m' → shipment_in (head_bytes m' i) (rows_from m k (orders_at m i)) ≡ t
         → does (shipment_at m i k) ≡ leave answer t → orders_at m' i ≡ orders_at m i
         → (flags_in_form (head_bytes m i) ≡ true → flags_in_form (head_bytes m' i) ≡ true) → ActAt m i k does answer m'
-    head-changed room only new done orders flags = record {
+    head_changed room only new done orders flags = record {
       answers = sym (ap (λ (outcome : Outcome). outcome.answer) done);
       leaves = rw (orders, rows_alike m m' k (orders_at m i) (λ r from below. rows_kept only r (omega arith)), done) new;
       only = with_rows_lem only;
@@ -43,10 +43,10 @@ module _ {m : List ℕ} {i k : ℕ} {does : Shipment → Outcome} where
       unmoved = λ still. absurd (not_both (changes_nothing answer) still taken);
     }
 
-    pub rows-changed : {rows : List Row} → i < most_shipments → OnlyRows k (orders_at m i) m m' → rows_from m' k (orders_at m i) ≡ rows
+    pub rows_changed : {rows : List Row} → i < most_shipments → OnlyRows k (orders_at m i) m m' → rows_from m' k (orders_at m i) ≡ rows
         → does (shipment_at m i k) ≡ leave answer (with_rows rows (shipment_at m i k)) → ActAt m i k does answer m'
     unfolding shipment_in
-    rows-changed few only new done =
+    rows_changed few only new done =
         let head = heads_kept only i few in
         record {
           answers = sym (ap (λ (outcome : Outcome). outcome.answer) done);

@@ -150,16 +150,16 @@ module _ {start journal : List ℕ} {table : List (List ℕ)} {memory : List ℕ
     room_left = room so_far more
 
     -- the entry that the code reads, how long it is, and the table after its answer is told
-    module _ {entry : List ℕ} (entry-is : entry ≡ drop at journal) where
-      pub entry-left : entry_fits entry ≡ true
-      entry-left = rw entry-is (entry_fits_lem (n - i) so_far more)
+    module _ {entry : List ℕ} (entry_is : entry ≡ drop at journal) where
+      pub entry_left : entry_fits entry ≡ true
+      entry_left = rw entry_is (entry_fits_lem (n - i) so_far more)
 
-      module _ {long : ℕ} (long-is : long ≡ min (entry_length entry) (length entry + 1)) where
+      module _ {long : ℕ} (long_is : long ≡ min (entry_length entry) (length entry + 1)) where
         pub next_fits : at + long ≤ length journal
-        next_fits = omega (arith, exact entry entry-left long-is, some_bytes entry, ap length entry-is, length-drop at journal)
+        next_fits = omega (arith, exact entry entry_left long_is, some_bytes entry, ap length entry_is, length-drop at journal)
 
         pub turns : {reply : Reply} {memory' : List ℕ} → Plays memory (call_in entry) reply memory'
             → SoFar start journal table memory' (set answers i (as_told reply)) (at + long) (i + 1) (n - (i + 1))
         turns played =
             let fewer : n - i - 1 ≡ n - (i + 1) = omega arith in
-            rw ((exact entry entry-left long-is).0, entry-is, ← fewer) (turn (n - i) so_far more (rw entry-is at played))
+            rw ((exact entry entry_left long_is).0, entry_is, ← fewer) (turn (n - i) so_far more (rw entry_is at played))

@@ -46,7 +46,7 @@ call_known_lem entry fits =
 
 -- an act that is none of the others is one on an order
 pub on_an_order : (call : ℕ) → 2 ≤ call → call ≤ 9 → (call ≡ 2 → ⊥) → (call ≡ 3 → ⊥) → (call ≡ 4 → ⊥) → (call ≡ 9 → ⊥) → (5 ≤ call) × (call ≤ 8)
-on_an_order call above below not-go-ahead not-pair not-close not-return = (omega arith, omega arith)
+on_an_order call above below not_go_ahead not_pair not_close not_return = (omega arith, omega arith)
 
 -- the call that the first byte says
 module _ (entry : List ℕ) where
@@ -62,40 +62,40 @@ module _ (entry : List ℕ) where
   unfolding call_in
   is_act more = rw (ne_eqb (call_byte entry) 0 (omega arith), ne_eqb (call_byte entry) 1 (omega arith))
 
-  module _ {id : List ℕ} (id-is : id ≡ entry_text entry 0) where
-    pub on-go-ahead : call_byte entry ≡ 2 → On (ident_of id) GoAhead ≡ On (ident_of (entry_text entry 0)) (act_in entry)
+  module _ {id : List ℕ} (id_is : id ≡ entry_text entry 0) where
+    pub on_go_ahead : call_byte entry ≡ 2 → On (ident_of id) GoAhead ≡ On (ident_of (entry_text entry 0)) (act_in entry)
     unfolding act_in
-    on-go-ahead first = rw (id-is, first)
+    on_go_ahead first = rw (id_is, first)
 
-    pub on-pair : call_byte entry ≡ 3 → On (ident_of id) Pair ≡ On (ident_of (entry_text entry 0)) (act_in entry)
+    pub on_pair : call_byte entry ≡ 3 → On (ident_of id) Pair ≡ On (ident_of (entry_text entry 0)) (act_in entry)
     unfolding act_in
-    on-pair first = rw (id-is, first)
+    on_pair first = rw (id_is, first)
 
-    pub on-close : call_byte entry ≡ 4 → On (ident_of id) Close ≡ On (ident_of (entry_text entry 0)) (act_in entry)
+    pub on_close : call_byte entry ≡ 4 → On (ident_of id) Close ≡ On (ident_of (entry_text entry 0)) (act_in entry)
     unfolding act_in
-    on-close first = rw (id-is, first)
+    on_close first = rw (id_is, first)
 
     pub on_return : {route : Route} {money : Money} → route ≡ route_of (entry_number entry 0) → money ≡ money_of (entry_number entry 1) → call_byte entry ≡ 9
         → On (ident_of id) (Return route money) ≡ On (ident_of (entry_text entry 0)) (act_in entry)
     unfolding act_in
-    on_return route-is money_is first = rw (id-is, route-is, money_is, first)
+    on_return route_is money_is first = rw (id_is, route_is, money_is, first)
 
     module _ {number : ℕ} (number_is : number ≡ entry_number entry 0) where
       pub on_post : call_byte entry ≡ 5 → On (ident_of id) (OnOrder Post number) ≡ On (ident_of (entry_text entry 0)) (act_in entry)
       unfolding act_in
-      on_post first = rw (id-is, number_is, first)
+      on_post first = rw (id_is, number_is, first)
 
-      pub on-pay : call_byte entry ≡ 6 → On (ident_of id) (OnOrder Pay number) ≡ On (ident_of (entry_text entry 0)) (act_in entry)
+      pub on_pay : call_byte entry ≡ 6 → On (ident_of id) (OnOrder Pay number) ≡ On (ident_of (entry_text entry 0)) (act_in entry)
       unfolding act_in
-      on-pay first = rw (id-is, number_is, first)
+      on_pay first = rw (id_is, number_is, first)
 
-      pub on-undelivered : call_byte entry ≡ 7 → On (ident_of id) (OnOrder MarkUndelivered number) ≡ On (ident_of (entry_text entry 0)) (act_in entry)
+      pub on_undelivered : call_byte entry ≡ 7 → On (ident_of id) (OnOrder MarkUndelivered number) ≡ On (ident_of (entry_text entry 0)) (act_in entry)
       unfolding act_in
-      on-undelivered first = rw (id-is, number_is, first)
+      on_undelivered first = rw (id_is, number_is, first)
 
-      pub on-withdraw : 5 ≤ call_byte entry → call_byte entry ≤ 8 → (call_byte entry ≡ 5 → ⊥) → (call_byte entry ≡ 6 → ⊥) → (call_byte entry ≡ 7 → ⊥)
+      pub on_withdraw : 5 ≤ call_byte entry → call_byte entry ≤ 8 → (call_byte entry ≡ 5 → ⊥) → (call_byte entry ≡ 6 → ⊥) → (call_byte entry ≡ 7 → ⊥)
           → On (ident_of id) (OnOrder Withdraw number) ≡ On (ident_of (entry_text entry 0)) (act_in entry)
       unfolding act_in
-      on-withdraw above below not-post not-pay not-undelivered =
+      on_withdraw above below not_post not_pay not_undelivered =
           let first : call_byte entry ≡ 8 = omega arith in
-          rw (id-is, number_is, first)
+          rw (id_is, number_is, first)

@@ -25,9 +25,9 @@ module _ (entry : List ℕ) (k : ℕ) {many : ℕ} where
     no_number above = rw (le-ltb k (numbers_of entry) (omega (arith, is)))
 
   module _ (is : many ≡ texts_of entry) where
-    pub text-there : {at : ℕ} → at ≡ lengths_start entry → k < many → number_at 8 entry (at + 8 * k) ≡ text_length entry k
+    pub text_there : {at : ℕ} → at ≡ lengths_start entry → k < many → number_at 8 entry (at + 8 * k) ≡ text_length entry k
     unfolding text_length
-    text-there at-is below = rw (at-is, lt-ltb k (texts_of entry) (omega (arith, is)))
+    text_there at_is below = rw (at_is, lt-ltb k (texts_of entry) (omega (arith, is)))
 
     pub no_text : many ≤ k → 0 ≡ text_length entry k
     unfolding text_length
@@ -40,10 +40,10 @@ starts_later entry k zero = let same : k + 0 ≡ k = omega arith in rw same (ome
 starts_later entry k (suc n) = let next : k + suc n ≡ suc (k + n) = omega arith in let before = starts_later entry k n in rw next (omega arith)
 
 -- text after text: the next starts behind this one, and where this one is not all there, none behind it is
-module _ (entry : List ℕ) (k : ℕ) {at long : ℕ} (at-is : at ≡ text_start entry k) (long-is : long ≡ text_length entry k) where
+module _ (entry : List ℕ) (k : ℕ) {at long : ℕ} (at_is : at ≡ text_start entry k) (long_is : long ≡ text_length entry k) where
   pub next_text : at + long ≡ text_start entry (k + 1)
   unfolding text_start
-  next_text = let next : k + 1 ≡ suc k = omega arith in rw (next, at-is, long-is)
+  next_text = let next : k + 1 ≡ suc k = omega arith in rw (next, at_is, long_is)
 
   pub cut_off : {j : ℕ} → k < j → length entry - at < long → length entry + 1 ≡ min (text_start entry j) (length entry + 1)
   cut_off {j} below short =
@@ -52,7 +52,7 @@ module _ (entry : List ℕ) (k : ℕ) {at long : ℕ} (at-is : at ≡ text_start
 
 pub starts_here : (entry : List ℕ) {at : ℕ} (k j : ℕ) → at ≡ text_start entry k → at ≤ length entry → k ≤ j → j ≤ k
     → at ≡ min (text_start entry j) (length entry + 1)
-starts_here entry k j at-is within below above = let last : k ≡ j = omega arith in omega (arith, rw last at at-is)
+starts_here entry k j at_is within below above = let last : k ≡ j = omega arith in omega (arith, rw last at at_is)
 
 -- behind the last text nothing is added
 all_behind : (entry : List ℕ) (n : ℕ) → text_start entry (texts_of entry + n) ≡ entry_length entry
@@ -92,8 +92,8 @@ module _ (entry : List ℕ) (fits : entry_fits entry ≡ true) where
 
   pub text_is : {at long : ℕ} {rest text : List ℕ} (j : ℕ) → at ≡ min (text_start entry j) (length entry + 1) → rest ≡ drop at entry
       → long ≡ text_length entry j → text ≡ take long rest → text ≡ entry_text entry j
-  text_is j at-is rest-is long-is is =
-      is ∙ (λ i. take (long-is i) ((rest-is ∙ ap (λ at. drop at entry) (start_there j at-is)) i))
+  text_is j at_is rest_is long_is is =
+      is ∙ (λ i. take (long_is i) ((rest_is ∙ ap (λ at. drop at entry) (start_there j at_is)) i))
 
   pub exact : {long : ℕ} → long ≡ min (entry_length entry) (length entry + 1) → (long ≡ entry_length entry) × (long ≤ length entry)
   exact is = (omega (arith, is, all_there), omega (arith, is, all_there))
@@ -112,32 +112,32 @@ module _ (entry : List ℕ) where
   no_fields is short = too_short entry (omega (arith, is, starts_within entry 0))
 
   module _ {long : ℕ} (is : long ≡ min (entry_length entry) (length entry + 1)) where
-    pub no-texts : length entry < long → leb long (length entry) ≡ entry_fits entry
-    no-texts short = lt-leb long (length entry) short ∙ too_short entry (omega (arith, is))
+    pub no_texts : length entry < long → leb long (length entry) ≡ entry_fits entry
+    no_texts short = lt-leb long (length entry) short ∙ too_short entry (omega (arith, is))
 
-    pub then-the-call : long ≤ length entry → call_known entry ≡ entry_fits entry
+    pub then_the_call : long ≤ length entry → call_known entry ≡ entry_fits entry
     unfolding entry_fits
-    then-the-call there = rw (le-leb (entry_length entry) (length entry) (omega (arith, is)))
+    then_the_call there = rw (le-leb (entry_length entry) (length entry) (omega (arith, is)))
 
 pub length_is : (entry : List ℕ) {many at : ℕ} → many ≡ texts_of entry → at ≡ min (text_start entry many) (length entry + 1)
     → at ≡ min (entry_length entry) (length entry + 1)
 unfolding entry_length
-length_is entry many_is at-is = rw many_is at at-is
+length_is entry many_is at_is = rw many_is at at_is
 
 -- an entry that is there ends within the bytes
 pub entry_within : (bytes : List ℕ) {entry : List ℕ} (at n : ℕ) → entry ≡ drop at bytes → at ≤ length bytes → n ≤ length entry
     → at + n ≤ length bytes
-entry_within bytes at n is-entry within long = omega (arith, length-drop at bytes, rw is-entry at long)
+entry_within bytes at n is_entry within long = omega (arith, length-drop at bytes, rw is_entry at long)
 
 -- entry after entry: one that is not whole answers no, and behind one that is, fewer are left
-module _ (bytes : List ℕ) {entry : List ℕ} (at left : ℕ) (is-entry : entry ≡ drop at bytes) (more : 0 < left) where
+module _ (bytes : List ℕ) {entry : List ℕ} (at left : ℕ) (is_entry : entry ≡ drop at bytes) (more : 0 < left) where
   pub entry_short : entry_fits entry ≡ false → entries_fit left (drop at bytes) ≡ false
   unfolding entries_fit
   entry_short short = by left more
     where
       by : (left : ℕ) → 0 < left → entries_fit left (drop at bytes) ≡ false
       by zero h = absurd (omega arith)
-      by (suc n) h = rw (← is-entry, short)
+      by (suc n) h = rw (← is_entry, short)
 
   pub entry_passed : {n : ℕ} → entry_fits entry ≡ true → n ≡ entry_length entry
       → entries_fit (left - 1) (drop (at + n) bytes) ≡ entries_fit left (drop at bytes)
@@ -146,7 +146,7 @@ module _ (bytes : List ℕ) {entry : List ℕ} (at left : ℕ) (is-entry : entry
     where
       by : (left : ℕ) → 0 < left → entries_fit (left - 1) (drop (at + n) bytes) ≡ entries_fit left (drop at bytes)
       by zero h = absurd (omega arith)
-      by (suc rest) h = let fewer : suc rest - 1 ≡ rest = omega arith in rw (fewer, ← drop-drop n at bytes, ← is-entry, fits, long)
+      by (suc rest) h = let fewer : suc rest - 1 ≡ rest = omega arith in rw (fewer, ← drop-drop n at bytes, ← is_entry, fits, long)
 
 -- and nothing behind the last
 pub all_passed : (bytes : List ℕ) (at left : ℕ) → at ≤ length bytes → left ≤ 0 → eqb at (length bytes) ≡ entries_fit left (drop at bytes)

@@ -51,7 +51,7 @@ module _ (n : ℕ) where
   asked_other answer_of (q ∷ qs) refused next refusing own later =
       either_way q.yes?
       (λ said. rw said (asked_other answer_of qs refused next refusing (and_right (not (eqb q.number n)) (are_other n qs) own) later))
-      (λ said-no. rw (said-no, refusing q.number) (and_left (not (eqb q.number n)) (are_other n qs) own))
+      (λ said_no. rw (said_no, refusing q.number) (and_left (not (eqb q.number n)) (are_other n qs) own))
 
   are_other_lem : (ps qs : List Question) → are_other n ps ≡ true → are_other n qs ≡ true → are_other n (ps ++ qs) ≡ true
   are_other_lem [] qs first second = second
@@ -89,12 +89,12 @@ step_answer next = next.answer
 
 step_other : (book : Book) (call : Call) → is_intake call ≡ false → is_other 10 (step book call).answer ≡ true
 unfolding step transferred_in title_of title_questions
-step_other book (Intake profile name file) not-intake = cc
-step_other book (Transfer title amount) not-intake =
+step_other book (Intake profile name file) not_intake = cc
+step_other book (Transfer title amount) not_intake =
     let accepted = first_answer_lem (transferred (title_of title).money amount) (λ (answer : Answer). is_other 10 answer ≡ true) refl
     (transferred_other (title_of title).money amount) (λ (s : Shipment). same_name (title_of title).name s.agreed.name) book in
     asked_other 10 step_answer (title_questions title ++ ((is_transfer amount else_no 12) ∷ [])) (refusing_in book) _ (λ number. refl) refl accepted
-step_other book (On ident act) not-intake =
+step_other book (On ident act) not_intake =
     first_answer_lem (acted act) (λ (answer : Answer). is_other 10 answer ≡ true) refl (acted_other act) (is_called ident) book
 
 profile_other : (profile : Profile) → are_other 900 (profile_questions profile) ≡ true
@@ -120,7 +120,7 @@ intake_other book (Transfer title amount) is_intake_lem = cc
 intake_other book (On ident act) is_intake_lem = cc
 
 pub never_10 : (book : Book) (call : Call) → is_intake call ≡ false → (step book call).answer ≡ Refused 10 → ⊥
-never_10 book call not-intake refused = false≢true (rw refused at (step_other book call not-intake))
+never_10 book call not_intake refused = false≢true (rw refused at (step_other book call not_intake))
 
 pub never_900 : (book : Book) (call : Call) → is_intake call ≡ true → (step book call).answer ≡ Refused 900 → ⊥
 never_900 book call is_intake_lem refused = false≢true (rw refused at (intake_other book call is_intake_lem))

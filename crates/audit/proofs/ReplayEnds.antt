@@ -54,16 +54,16 @@ module _ {start journal : List ℕ} {table : List (List ℕ)} where
   }
 
   module _ (encoded : journal_fits journal ≡ true) where
-    pub ends-too-few : length table < count_in journal → Replays start journal table replaying.TooFewAnswers start table
-    ends-too-few why = record {
+    pub ends_too_few : length table < count_in journal → Replays start journal table replaying.TooFewAnswers start table
+    ends_too_few why = record {
       not_encoded = λ r. otherwise (cc);
       too_few = λ r. (encoded, why, refl, refl);
       not_empty = λ r. otherwise (cc);
       replayed = λ n r. otherwise (cc);
     }
 
-    pub ends-not-empty : count_in journal ≤ length table → (read_book start ≡ some [] → ⊥) → Replays start journal table replaying.NotEmpty start table
-    ends-not-empty enough why = record {
+    pub ends_not_empty : count_in journal ≤ length table → (read_book start ≡ some [] → ⊥) → Replays start journal table replaying.NotEmpty start table
+    ends_not_empty enough why = record {
       not_encoded = λ r. otherwise (cc);
       too_few = λ r. otherwise (cc);
       not_empty = λ r. (encoded, enough, why, refl, refl);

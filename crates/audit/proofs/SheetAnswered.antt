@@ -98,8 +98,8 @@ sheet_as_answered start made held chain p table totals sheet given n i filled in
     let calls = calls_of made in
     let book = book_at calls p in
     let is_sound = always_sound calls p in
-    let as-given = given ∙ ap (λ (b : Option Book). sheet_of b table totals) (list.books p) in
-    let full = fills book table totals n (sym (ap (λ (x : Sheet). x.answer) as-given) ∙ filled) in
+    let as_given = given ∙ ap (λ (b : Option Book). sheet_of b table totals) (list.books p) in
+    let full = fills book table totals n (sym (ap (λ (x : Sheet). x.answer) as_given) ∙ filled) in
     let row = each_row (λ (row : SheetRow). RowAsAnswered money row book (events_between calls 0 p)) (drop (length book) table) outside book
     (search halves depth 4) (row_as_answered calls p money) i (omega (arith, full.as_many)) in
-    rw (list.books p, list.answers, as-given, full.rows) row
+    rw (list.books p, list.answers, as_given, full.rows) row

@@ -40,14 +40,14 @@ holds_sound : (m : List ℕ) (book : Book) → read_book m ≡ some book → (si
 unfolding read_book
 holds_sound m book held =
     either_way (sound_in m)
-    (λ yes-sound. (long_enough m yes-sound, let same : book_in m ≡ book = some_same (rw yes-sound at held) in rw (sym same) (sound_storable m yes-sound)))
-    (λ unsound. absurd (none-some (rw unsound at held)))
+    (λ yes_sound. (long_enough m yes_sound, let same : book_in m ≡ book = some_same (rw yes_sound at held) in rw (sym same) (sound_storable m yes_sound)))
+    (λ unsound. absurd (none_some (rw unsound at held)))
   where
     some_same : {a b : Book} → some a ≡ some b → a ≡ b
     some_same h = cc
 
-    none-some : {b : Book} → none ≡ some b → ⊥
-    none-some h = let never : ◌≡◌ {A = ℕ} 0 1 = cc in absurd (omega arith)
+    none_some : {b : Book} → none ≡ some b → ⊥
+    none_some h = let never : ◌≡◌ {A = ℕ} 0 1 = cc in absurd (omega arith)
 
 -- the bytes that an accepted store answers are the book's
 front : (a b : List ℕ) → take (length a) (a ++ b) ≡ a
@@ -86,7 +86,7 @@ pub is_reloaded : (m : List ℕ) (book : Book) → read_book m ≡ some book →
 unfolding stored_into
 is_reloaded m book held =
     let text = stored book in
-    let sound-there = holds_sound m book held in
+    let sound_there = holds_sound m book held in
     let bytes = front text (drop (length text) text) in
     record {
       output = text;
@@ -95,9 +95,9 @@ is_reloaded m book held =
       lent = m;
       store_accepted = rw held (alone_written text text (omega arith));
       load_accepted = rw bytes record {
-        loaded = λ other stores enough. (refl, held ∙ ap (λ (b : Book). some b) (stored_apart book other sound-there.1 stores.storable (sym stores.is_stored)));
-        too_short = λ other stores short. absurd (omega (arith, sound-there.0));
-        not_stored = λ nothing. absurd (nothing book (record { storable = sound-there.1; is_stored = refl }));
+        loaded = λ other stores enough. (refl, held ∙ ap (λ (b : Book). some b) (stored_apart book other sound_there.1 stores.storable (sym stores.is_stored)));
+        too_short = λ other stores short. absurd (omega (arith, sound_there.0));
+        not_stored = λ nothing. absurd (nothing book (record { storable = sound_there.1; is_stored = refl }));
         refused = λ number never. refl;
         behind = λ j far. refl;
         as_long = refl;
@@ -171,11 +171,11 @@ calls_between (Carried memory ∷ later) (suc p) n = calls_between later p n
 
 calls_then : (list : List Link) (p n : ℕ) → calls_before list (p + n) ≡ calls_before list p + length (without (take n (drop p list)))
 calls_then list zero n = let place : 0 + n ≡ n = omega arith in rw place (omega arith)
-calls_then [] (suc p) n = let place : suc p + n ≡ suc (p + n) = omega arith in rw place (none-called n)
+calls_then [] (suc p) n = let place : suc p + n ≡ suc (p + n) = omega arith in rw place (none_called n)
   where
-    none-called : (n : ℕ) → 0 ≡ 0 + length (without (take n []))
-    none-called zero = refl
-    none-called (suc n) = refl
+    none_called : (n : ℕ) → 0 ≡ 0 + length (without (take n []))
+    none_called zero = refl
+    none_called (suc n) = refl
 calls_then (Called made ∷ later) (suc p) n =
     let place : suc p + n ≡ suc (p + n) = omega arith in
     let rest = calls_then later p n in
@@ -201,13 +201,13 @@ listed_with_pairs start list held chain =
     }
 
 pub moves_as_without : MovesAsWithout
-moves_as_without book start list alone made held held-alone chain chain-alone same =
-    let with-pairs = follows_with_pairs book start list held chain in
-    let calls = follows book alone made held-alone chain-alone in
+moves_as_without book start list alone made held held_alone chain chain_alone same =
+    let with_pairs = follows_with_pairs book start list held chain in
+    let calls = follows book alone made held_alone chain_alone in
     record {
-      answers = answers_with_pairs with-pairs ∙ sym (ap (λ (l : List Call). events book l) same) ∙ sym (answers calls);
+      answers = answers_with_pairs with_pairs ∙ sym (ap (λ (l : List Call). events book l) same) ∙ sym (answers calls);
       books = λ p.
-          points_with_pairs with-pairs p
+          points_with_pairs with_pairs p
           ∙ sym (ap (λ (l : List Call). some (run book (take (calls_before list p) l))) same)
           ∙ sym (points calls (calls_before list p));
     }

@@ -72,13 +72,13 @@ module _ {is : List ℕ → Bool} {does : Shipment → Outcome} {call : Call} (s
     stepped : step (book_in m) call ≡ record { book = book_in m'; answer = answer }
     unfolding book_in
     stepped =
-        let at-shipment = at_place is m i k placed in
-        let whole = sound_parts m at-shipment.0 in
-        rw act.only.shipments (seeks.steps (book_in m) ∙ first_acted seeks act at-shipment.1 (omega arith) (omega (arith, whole.rows)))
+        let at_shipment = at_place is m i k placed in
+        let whole = sound_parts m at_shipment.0 in
+        rw act.only.shipments (seeks.steps (book_in m) ∙ first_acted seeks act at_shipment.1 (omega arith) (omega (arith, whole.rows)))
 
-    sound-after : sound_in m' ≡ true
+    sound_after : sound_in m' ≡ true
     unfolding sound_in
-    sound-after =
+    sound_after =
         let whole = sound_parts m (at_place is m i k placed).0 in
         let kept = flags_kept act 0 (shipments_in m) (omega arith) whole.flags in
         let enough = le-leb size (length m') (rw act.only.as_long whole.enough) in
@@ -86,4 +86,4 @@ module _ {is : List ℕ → Bool} {does : Shipment → Outcome} {call : Call} (s
         rw (enough, act.only.shipments, kept, book)
 
     pub does_at : Does m call answer m'
-    does_at = does_step (at_place is m i k placed).0 sound-after stepped act.unmoved act.only.behind act.only.as_long
+    does_at = does_step (at_place is m i k placed).0 sound_after stepped act.unmoved act.only.behind act.only.as_long

@@ -55,7 +55,7 @@ passed_fitting profile passed = let yeses = all_yes (profile_questions profile) 
 pub stated_as_set : (profile : Profile) (file : List ℕ) {stated : Stated} {terms : Terms} → stated ≡ stated_of profile file → stated_terms profile (header file) ≡ terms
     → stated.terms ≡ terms
 unfolding stated_of stated_in
-stated_as_set profile file is set-for = ap (λ (one : Stated). one.terms) is ∙ set-for
+stated_as_set profile file is set_for = ap (λ (one : Stated). one.terms) is ∙ set_for
 
 pub stated_fit : (profile : Profile) (name : Name) {terms : Terms} → first_no (profile_questions profile) ≡ Passed → terms ≡ terms_for profile name.kind
     → TermsFit terms
@@ -84,34 +84,34 @@ module _ (m : List ℕ) (i : ℕ) (name : Name) (terms : Terms) (n faulty : ℕ)
         stays opened.sound (stepped ∙ asked_no 903 _ _ _ (le-ltb (length (book_in m)) most_shipments (omega (arith, book_length))));
   }
 
-  module _ (few : i < most_shipments) {k : ℕ} (is-from : k ≡ rows_in (shipments_from m 0 0 i)) where
+  module _ (few : i < most_shipments) {k : ℕ} (is_from : k ≡ rows_in (shipments_from m 0 0 i)) where
     from_is : k ≡ rows_in (book_in m)
     unfolding book_in
-    from_is = is-from ∙ ap (λ n. rows_in (shipments_from m 0 0 n)) opened.last
+    from_is = is_from ∙ ap (λ n. rows_in (shipments_from m 0 0 n)) opened.last
 
-    pub from-within : k ≤ most_rows
-    from-within = omega (arith, from_is, (sound_parts m opened.sound).rows)
+    pub from_within : k ≤ most_rows
+    from_within = omega (arith, from_is, (sound_parts m opened.sound).rows)
 
-    few-enough : ltb (length (book_in m)) most_shipments ≡ true
-    few-enough = lt-ltb (length (book_in m)) most_shipments (omega (arith, book_length))
+    few_enough : ltb (length (book_in m)) most_shipments ≡ true
+    few_enough = lt-ltb (length (book_in m)) most_shipments (omega (arith, book_length))
 
     module _ (counted : Counted terms n kept) where
-      pub no-row-left : most_rows - k < n → DoesEnter [] new n faulty m (Refused 904) m
-      no-row-left full = record {
+      pub no_row_left : most_rows - k < n → DoesEnter [] new n faulty m (Refused 904) m
+      no_row_left full = record {
         by_call = λ call stepped.
             stays opened.sound
             (stepped
-            ∙ asked_yes 903 _ _ _ few-enough
-            ∙ asked_no 904 _ _ _ (lt-leb (rows_in (book_in m) + n) most_rows (omega (arith, from_is, from-within))));
+            ∙ asked_yes 903 _ _ _ few_enough
+            ∙ asked_no 904 _ _ _ (lt-leb (rows_in (book_in m) + n) most_rows (omega (arith, from_is, from_within))));
       }
 
-      pub fits-behind : n ≤ most_rows - k → Fits m i k name terms n kept
-      fits-behind room = record {
+      pub fits_behind : n ≤ most_rows - k → Fits m i k name terms n kept
+      fits_behind room = record {
         enough = (sound_parts m opened.sound).enough;
         last = opened.last;
         few = few;
         from = from_is;
-        room = omega (arith, from-within);
+        room = omega (arith, from_within);
         in_range = counted.in_range (omega arith);
         charged = counted.charged (omega arith);
         in_form = opened.in_form;
@@ -125,8 +125,8 @@ module _ (m : List ℕ) (i : ℕ) (name : Name) (terms : Terms) (n faulty : ℕ)
             let parts = sound_parts m opened.sound in
             let taken : step (book_in m) call ≡ record { book = book_in m'; answer = Accepted n faulty }
             = stepped
-            ∙ asked_yes 903 _ _ _ few-enough
-            ∙ asked_yes 904 _ _ _ (le-leb (rows_in (book_in m) + n) most_rows (omega (arith, from_is, from-within)))
+            ∙ asked_yes 903 _ _ _ few_enough
+            ∙ asked_yes 904 _ _ _ (le-leb (rows_in (book_in m) + n) most_rows (omega (arith, from_is, from_within)))
             ∙ asked_none _ _
             ∙ (λ t. record { book = sym done.book t; answer = Accepted n faulty }) in
             let enough = le-leb size (length m') (rw done.as_long parts.enough) in
@@ -137,7 +137,7 @@ module _ (m : List ℕ) (i : ℕ) (name : Name) (terms : Terms) (n faulty : ℕ)
 -- what the contents come to
 module _ (m : List ℕ) (i : ℕ) (profile : Profile) (name : Name) (file : List ℕ) (fits : first_no (profile_questions profile) ≡ Passed)
     (is_sound : sound_in m ≡ true) (last : i ≡ shipments_in m) (in_form : name_in_form name ≡ true)
-    (stated-is : stated_terms profile (header file) ≡ terms_for profile name.kind) {terms : Terms} (is_terms : terms ≡ terms_for profile name.kind) where
+    (stated_is : stated_terms profile (header file) ≡ terms_for profile name.kind) {terms : Terms} (is_terms : terms ≡ terms_for profile name.kind) where
   pub opened : Opened m i name terms
   opened = record {
     sound = is_sound;
@@ -168,50 +168,50 @@ module _ (m : List ℕ) (i : ℕ) (profile : Profile) (name : Name) (file : List
   }
 
   -- the records of a file whose header has passed
-  module _ (headed : (stated_of profile file).verdict ≡ Passed) {records : Records} (are-records : records ≡ records_behind profile file) where
-    is-result : records.judged ≡ judged_of (contents profile file) (orders file)
-    is-result = ap (λ (all : Records). all.judged) are-records ∙ two_steps_are_contents.second_decides profile file headed
+  module _ (headed : (stated_of profile file).verdict ≡ Passed) {records : Records} (are_records : records ≡ records_behind profile file) where
+    is_result : records.judged ≡ judged_of (contents profile file) (orders file)
+    is_result = ap (λ (all : Records). all.judged) are_records ∙ two_steps_are_contents.second_decides profile file headed
 
-    pub records-refused : {number : ℕ} → records.judged ≡ judged.Refused number
+    pub records_refused : {number : ℕ} → records.judged ≡ judged.Refused number
         → DoesEnter (contents_questions profile file) (entered profile name (orders file)) (length (orders file)) (faulty_count (orders file)) m (Refused number) m
-    records-refused {number} refused = contents_refused (refused_with_lem (contents profile file) number (sym is-result ∙ refused))
+    records_refused {number} refused = contents_refused (refused_with_lem (contents profile file) number (sym is_result ∙ refused))
 
     module _ {n faulty : ℕ} (accepted : records.judged ≡ judged.Accepted n faulty) where
       abbrev kept : List ℕ
       kept = records.kept
 
       passed : (contents profile file ≡ Passed) × ((n ≡ length (orders file)) × (faulty ≡ faulty_count (orders file)))
-      passed = passed_or_not (contents profile file) n faulty (sym is-result ∙ accepted)
+      passed = passed_or_not (contents profile file) n faulty (sym is_result ∙ accepted)
 
       in_range : EachInRange (orders file)
       in_range = (accepted_as_stated profile file passed.0).in_range
 
-      are-kept : kept ≡ kept_from none_kept 0 (orders file)
-      are-kept = ap (λ (all : Records). all.kept) are-records ∙ two_steps_are_contents.accepted_kept profile file passed.0
+      are_kept : kept ≡ kept_from none_kept 0 (orders file)
+      are_kept = ap (λ (all : Records). all.kept) are_records ∙ two_steps_are_contents.accepted_kept profile file passed.0
 
       -- the orders are in the table, if they are no more than a book has rows
       in_table : n ≤ most_rows → orders_in kept 0 n ≡ orders file
       in_table few =
           let all = passed.1.0 in
-          rw (are-kept, all) (kept_in_order none_kept (orders file) in_range (omega (arith, length-replicate {A = ℕ} 2_048 0)))
+          rw (are_kept, all) (kept_in_order none_kept (orders file) in_range (omega (arith, length-replicate {A = ℕ} 2_048 0)))
 
       charged : EachCharged terms (orders file)
-      charged = subst (λ (one : Terms). EachCharged one (orders file)) (stated-is ∙ sym is_terms) (accepted_as_stated profile file passed.0).charged
+      charged = subst (λ (one : Terms). EachCharged one (orders file)) (stated_is ∙ sym is_terms) (accepted_as_stated profile file passed.0).charged
 
       pub counted : Counted terms n kept
       counted = record { in_range = λ few. rw (in_table few) in_range; charged = λ few. rw (in_table few) charged }
 
-      entered-alike : entered_in [] (of_orders (orders file)) n faulty (book_in m) ≡ entered_in [] (of_orders (orders_in kept 0 n)) n faulty (book_in m)
-      entered-alike =
+      entered_alike : entered_in [] (of_orders (orders file)) n faulty (book_in m) ≡ entered_in [] (of_orders (orders_in kept 0 n)) n faulty (book_in m)
+      entered_alike =
           either_way (leb n most_rows) (λ few. ap (λ os. entered_in [] (of_orders os) n faulty (book_in m)) (sym (in_table (leb-true n most_rows few))))
           (λ many. too_many (of_orders (orders file)) (of_orders (orders_in kept 0 n)) n faulty (book_in m) (leb-false n most_rows many))
 
-      pub contents-accepted : {answer : Answer} {m' : List ℕ} → DoesEnter [] (of_orders (orders_in kept 0 n)) n faulty m answer m'
+      pub contents_accepted : {answer : Answer} {m' : List ℕ} → DoesEnter [] (of_orders (orders_in kept 0 n)) n faulty m answer m'
           → DoesEnter (contents_questions profile file) (entered profile name (orders file)) (length (orders file)) (faulty_count (orders file)) m answer m'
       unfolding entered contents
-      contents-accepted enters =
+      contents_accepted enters =
           rw (← is_terms, ← passed.1.0, ← passed.1.1)
-          (record { by_call = λ call stepped. enters.by_call call (stepped ∙ asked_behind (contents_questions profile file) _ _ _ passed.0 ∙ entered-alike) })
+          (record { by_call = λ call stepped. enters.by_call call (stepped ∙ asked_behind (contents_questions profile file) _ _ _ passed.0 ∙ entered_alike) })
 
 -- the questions before the contents
 module _ (m : List ℕ) (profile : Profile) (name file : List ℕ) where
@@ -226,64 +226,64 @@ module _ (m : List ℕ) (profile : Profile) (name file : List ℕ) where
       (λ unsound. does_no_book (asked_refused (profile_questions profile) Refused (Refused 900) _ refused) unsound)
 
   module _ (fits : first_no (profile_questions profile) ≡ Passed) where
-    pub memory-refused : sound_in m ≡ false → Does m call (Refused 900) m
-    memory-refused unsound = does_no_book (asked_passed (profile_questions profile) Refused (Refused 900) fits) unsound
+    pub memory_refused : sound_in m ≡ false → Does m call (Refused 900) m
+    memory_refused unsound = does_no_book (asked_passed (profile_questions profile) Refused (Refused 900) fits) unsound
 
     module _ (held : sound_in m ≡ true) where
-      pub opening-refused : {number : ℕ} → opening name file ≡ No number → Does m call (Refused number) m
+      pub opening_refused : {number : ℕ} → opening name file ≡ No number → Does m call (Refused number) m
       unfolding step taken_in intake_questions opening
-      opening-refused refused = stays held (asked_behind (profile_questions profile) _ _ _ fits ∙ asked_before (opening_questions name file) _ _ _ refused)
+      opening_refused refused = stays held (asked_behind (profile_questions profile) _ _ _ fits ∙ asked_before (opening_questions name file) _ _ _ refused)
 
       module _ (passed : opening name file ≡ Passed) where
         -- "Identifier not yet in the book? 101"
-        pub known-refused : is_unknown (name_of name).ident (book_in m) ≡ false → Does m call (Refused 101) m
+        pub known_refused : is_unknown (name_of name).ident (book_in m) ≡ false → Does m call (Refused 101) m
         unfolding step taken_in intake_questions opening
-        known-refused known =
+        known_refused known =
             stays held (asked_behind (profile_questions profile) _ _ _ fits ∙ asked_behind (opening_questions name file) _ _ _ passed ∙ asked_no 101 _ _ _ known)
 
-        pub contents-next : is_unknown (name_of name).ident (book_in m) ≡ true
+        pub contents_next : is_unknown (name_of name).ident (book_in m) ≡ true
             → step (book_in m) call
             ≡ entered_in (contents_questions profile file) (entered profile (name_of name) (orders file)) (length (orders file)) (faulty_count (orders file)) (book_in m)
         unfolding step taken_in intake_questions opening
-        contents-next unknown =
+        contents_next unknown =
             asked_behind (profile_questions profile) _ _ _ fits ∙ asked_behind (opening_questions name file) _ _ _ passed ∙ asked_yes 101 _ _ _ unknown
 
     -- as code has the opening
-    module _ (held : sound_in m ≡ true) {opened-file : Opening} (is-opened : opened-file ≡ opening_of name file) where
-      verdict-is : opened-file.verdict ≡ opening name file
+    module _ (held : sound_in m ≡ true) {opened_file : Opening} (is_opened : opened_file ≡ opening_of name file) where
+      verdict_is : opened_file.verdict ≡ opening name file
       unfolding opening_of
-      verdict-is = ap (λ (o : Opening). o.verdict) is-opened
+      verdict_is = ap (λ (o : Opening). o.verdict) is_opened
 
-      name-is : opened-file.name ≡ name_of name
+      name_is : opened_file.name ≡ name_of name
       unfolding opening_of
-      name-is = ap (λ (o : Opening). o.name) is-opened
+      name_is = ap (λ (o : Opening). o.name) is_opened
 
-      pub not_opened : {number : ℕ} → opened-file.verdict ≡ No number → Does m call (Refused number) m
-      not_opened refused = opening-refused held (sym verdict-is ∙ refused)
+      pub not_opened : {number : ℕ} → opened_file.verdict ≡ No number → Does m call (Refused number) m
+      not_opened refused = opening_refused held (sym verdict_is ∙ refused)
 
-      module _ (passed : opened-file.verdict ≡ Passed) where
+      module _ (passed : opened_file.verdict ≡ Passed) where
         -- the header states the terms of the name's kind
-        pub terms-of-name : stated_terms profile (header file) ≡ terms_for profile opened-file.name.kind
-        terms-of-name = stated_terms_lem profile name file (sym verdict-is ∙ passed) ∙ ap (λ (n : Name). terms_for profile n.kind) (sym name-is)
+        pub terms_of_name : stated_terms profile (header file) ≡ terms_for profile opened_file.name.kind
+        terms_of_name = stated_terms_lem profile name file (sym verdict_is ∙ passed) ∙ ap (λ (n : Name). terms_for profile n.kind) (sym name_is)
 
-        pub name_in_form_lem : name_in_form opened-file.name ≡ true
-        name_in_form_lem = ap name_in_form name-is ∙ opened_in_form name file (sym verdict-is ∙ passed)
+        pub name_in_form_lem : name_in_form opened_file.name ≡ true
+        name_in_form_lem = ap name_in_form name_is ∙ opened_in_form name file (sym verdict_is ∙ passed)
 
         module _ {i : ℕ} (last : i ≡ shipments_in m) {unknown : Bool}
-            (is-unknown : unknown ≡ is_unknown opened-file.name.ident (shipments_from m 0 0 i)) where
-          unknown-test : is_unknown (name_of name).ident (book_in m) ≡ unknown
+            (is-unknown : unknown ≡ is_unknown opened_file.name.ident (shipments_from m 0 0 i)) where
+          unknown_test : is_unknown (name_of name).ident (book_in m) ≡ unknown
           unfolding book_in
-          unknown-test =
-              (λ t. is_unknown (sym name-is t).ident (shipments_from m 0 0 (sym last t))) ∙ sym is-unknown
+          unknown_test =
+              (λ t. is_unknown (sym name_is t).ident (shipments_from m 0 0 (sym last t))) ∙ sym is-unknown
 
           pub known_at : unknown ≡ false → Does m call (Refused 101) m
-          known_at known = known-refused held (sym verdict-is ∙ passed) (unknown-test ∙ known)
+          known_at known = known_refused held (sym verdict_is ∙ passed) (unknown_test ∙ known)
 
           pub taken_at : unknown ≡ true → {answer : Answer} {m' : List ℕ}
-              → DoesEnter (contents_questions profile file) (entered profile opened-file.name (orders file)) (length (orders file)) (faulty_count (orders file)) m answer m'
+              → DoesEnter (contents_questions profile file) (entered profile opened_file.name (orders file)) (length (orders file)) (faulty_count (orders file)) m answer m'
               → Does m call answer m'
           taken_at new enters =
               enters.by_call call
-              (contents-next held (sym verdict-is ∙ passed) (unknown-test ∙ new)
+              (contents_next held (sym verdict_is ∙ passed) (unknown_test ∙ new)
               ∙ ap (λ (n : Name). entered_in (contents_questions profile file) (entered profile n (orders file)) (length (orders file)) (faulty_count (orders file)) (book_in m))
-              (sym name-is))
+              (sym name_is))

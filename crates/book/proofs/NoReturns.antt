@@ -25,15 +25,15 @@ module _ (ident : Ident) (m : List ℕ) where
   unfolding read_book
   refused_unknown e = let found = found_none ident m e in rw (found.0, found.1)
 
-  module _ {i k : ℕ} (placed : place_in (called_in ident) m ≡ At i k) {head : List ℕ} (is-head : head ≡ head_bytes m i)
+  module _ {i k : ℕ} (placed : place_in (called_in ident) m ≡ At i k) {head : List ℕ} (is_head : head ≡ head_bytes m i)
       {paired : Bool} (is-paired : paired ≡ is_paired (stage_in head)) where
     stage_is : is_paired (shipment_at m i k).stage ≡ paired
-    stage_is = sym (is-paired ∙ paired_is m i k is-head)
+    stage_is = sym (is-paired ∙ paired_is m i k is_head)
 
-    pub refused-paired : paired ≡ true → 22 ≡ no_return ident (read_book m)
+    pub refused_paired : paired ≡ true → 22 ≡ no_return ident (read_book m)
     unfolding read_book
-    refused-paired h = let found = found_at ident m placed in rw (found.0, found.1, stage_is ∙ h)
+    refused_paired h = let found = found_at ident m placed in rw (found.0, found.1, stage_is ∙ h)
 
-    pub refused-not-paired : paired ≡ false → 19 ≡ no_return ident (read_book m)
+    pub refused_not_paired : paired ≡ false → 19 ≡ no_return ident (read_book m)
     unfolding read_book
-    refused-not-paired h = let found = found_at ident m placed in rw (found.0, found.1, stage_is ∙ h)
+    refused_not_paired h = let found = found_at ident m placed in rw (found.0, found.1, stage_is ∙ h)

@@ -14,10 +14,10 @@ use Rattle.sound.proofs.ReadLaws.{rows_next}
 module _ (m : List ℕ) (i k left : ℕ) where
   pub rows_on : {head : List ℕ} {n : ℕ} → head ≡ head_bytes m i → n ≡ order_count_in head → 0 < left
       → k + n + rows_in (shipments_from m (i + 1) (k + n) (left - 1)) ≡ k + rows_in (shipments_from m i k left)
-  rows_on {head} {n} is-head is-count more = by left more
+  rows_on {head} {n} is_head is_count more = by left more
     where
       count : n ≡ orders_at m i
-      count = is-count ∙ ap order_count_in is-head
+      count = is_count ∙ ap order_count_in is_head
 
       by : (left : ℕ) → 0 < left → k + n + rows_in (shipments_from m (i + 1) (k + n) (left - 1)) ≡ k + rows_in (shipments_from m i k left)
       by zero h = absurd (omega arith)

@@ -19,14 +19,14 @@ use Rattle.buntingraft.specs.Exports.{Returns}
 module _ {before : List ℕ} {ident : Ident} {reply : Reply} {route money : ℕ} {known : Bool} (is_known : known ≡ are_known route money) where
   pub returned : {by : Route} {of : Money} {after : List ℕ} → known ≡ true → by ≡ route_of route → of ≡ money_of money
       → Plays before (On ident (Return by of)) reply after → Returns before ident route money reply after
-  returned h by-is of_is played = record {
-    plays = λ known. plays_same (rw (by-is, of_is)) played;
+  returned h by_is of_is played = record {
+    plays = λ known. plays_same (rw (by_is, of_is)) played;
     refused = λ unknown. absurd (false≢true (rw (is_known, unknown) at h));
   }
 
   pub not_returned : {same : Ident} {number : ℕ} → known ≡ false → same ≡ ident → number ≡ no_return same (read_book before) → reply ≡ refused_with number
       → Returns before ident route money reply before
-  not_returned h same-is number_is is_reply = record {
+  not_returned h same_is number_is is_reply = record {
     plays = λ known. absurd (true≢false (rw (is_known, known) at h));
-    refused = λ unknown. (rw (← same-is, ← number_is) is_reply, refl);
+    refused = λ unknown. (rw (← same_is, ← number_is) is_reply, refl);
   }

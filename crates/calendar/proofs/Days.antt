@@ -45,9 +45,9 @@ follows date r =
     (λ t. let k = ltb-true m 12 t in (y, m + 1, 1, written y (m + 1) 1 (omega arith) (omega arith), next_month (omega arith) k))
     (λ t. let k = ltb-false m 12 t in (y + 1, 1, 1, omega arith, next_year (omega arith) (omega arith))))
 
-no_months : (inLeapYear : Bool) → days_of_months inLeapYear 0 ≡ 0
+no_months : (in_leap_year : Bool) → days_of_months in_leap_year 0 ≡ 0
 unfolding days_of_months
-no_months inLeapYear = refl
+no_months in_leap_year = refl
 
 one_more : {y m d y' m' d' : ℕ} → Next y m d y' m' d' → RealDay y m d → number_of y' m' d' ≡ suc (number_of y m d)
 one_more (in_month h) r = omega arith
@@ -74,9 +74,9 @@ pub counts_from_zero : CountsFromZero
 unfolding day_number days_of_years days_of_months
 counts_from_zero = refl
 
-december : (inLeapYear : Bool) → month_length inLeapYear 12 ≡ 31
+december : (in_leap_year : Bool) → month_length in_leap_year 12 ≡ 31
 unfolding month_length
-december inLeapYear = refl
+december in_leap_year = refl
 
 -- Only 31 December 2099 has no real day after it.
 next_is_real : {y m d y' m' d' : ℕ} → Next y m d y' m' d' → RealDay y m d → (y ≡ 2099 → m ≡ 12 → d ≡ 31 → ⊥) → RealDay y' m' d'

@@ -44,13 +44,13 @@ parts_of_lem date h =
     let m = month date in
     let d = day date in
     let last = month_length (leap y) m in
-    let inYears = between 2000 2099 y in
-    let inMonths = between 1 12 m in
-    let inDays = between 1 last d in
-    let rest = and_right inYears (inMonths && inDays) h in
-    let years = bounds 2000 y 2099 (and_left inYears (inMonths && inDays) h) in
-    let months = bounds 1 m 12 (and_left inMonths inDays rest) in
-    let days = bounds 1 d last (and_right inMonths inDays rest) in
+    let in_years = between 2000 2099 y in
+    let in_months = between 1 12 m in
+    let in_days = between 1 last d in
+    let rest = and_right in_years (in_months && in_days) h in
+    let years = bounds 2000 y 2099 (and_left in_years (in_months && in_days) h) in
+    let months = bounds 1 m 12 (and_left in_months in_days rest) in
+    let days = bounds 1 d last (and_right in_months in_days rest) in
     record { from_2000 = years.0; to_2099 = years.1; from_january = months.0; to_december = months.1; from_first = days.0; to_last = days.1 }
 
 pub real_from : (date y m d : ℕ) → Writes date y m d → RealDay y m d → real date ≡ true

@@ -17,8 +17,8 @@ leap y = eqb (y % 4) 0 && (not (eqb (y % 100) 0) || eqb (y % 400) 0)
 
 -- The days of month m: 28 or 29 in February, 30 in April, June, September and November, else 31.
 unfoldable pub month_length : Bool → ℕ → ℕ
-month_length inLeapYear m =
-    cond (eqb m 2) (cond inLeapYear 29 28)
+month_length in_leap_year m =
+    cond (eqb m 2) (cond in_leap_year 29 28)
     (cond (eqb m 4 || (eqb m 6 || (eqb m 9 || eqb m 11))) 30
     31)
 
@@ -30,8 +30,8 @@ real date =
 
 -- The days of a year's first n months, and of the first n years from 2000 on.
 unfoldable pub days_of_months : Bool → ℕ → ℕ
-days_of_months inLeapYear zero = 0
-days_of_months inLeapYear (suc n) = days_of_months inLeapYear n + month_length inLeapYear (suc n)
+days_of_months in_leap_year zero = 0
+days_of_months in_leap_year (suc n) = days_of_months in_leap_year n + month_length in_leap_year (suc n)
 
 unfoldable pub days_of_years : ℕ → ℕ
 days_of_years zero = 0

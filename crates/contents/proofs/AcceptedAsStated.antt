@@ -49,14 +49,14 @@ accepted_as_stated profile file h =
     let line = header file in
     let lines = records file in
     let yes = all_yes (contents_questions profile file) h in
-    let dates-on = yes.1.1 in
-    let stated-on = dates-on.1.1.1.1.1 in
-    let records-on = stated-on.1.1.1.1 in
-    let as_many = length-map lines order_of ∙ eqb-true (length lines) (stated_count line) records-on.1.1.0 in
+    let dates_on = yes.1.1 in
+    let stated_on = dates_on.1.1.1.1.1 in
+    let records_on = stated_on.1.1.1.1 in
+    let as_many = length-map lines order_of ∙ eqb-true (length lines) (stated_count line) records_on.1.1.0 in
     record {
       as_many = as_many;
-      at_least_one = omega (arith, as_many, leb-true 1 (stated_count line) stated-on.1.0);
-      in_range = orders_in_range lines records-on.1.0;
-      add_up = orders_add_up lines ∙ eqb-true (total lines) (stated_sum line) records-on.1.1.1.0;
-      charged = orders_charged (stated_terms profile line) lines records-on.1.1.1.1.0;
+      at_least_one = omega (arith, as_many, leb-true 1 (stated_count line) stated_on.1.0);
+      in_range = orders_in_range lines records_on.1.0;
+      add_up = orders_add_up lines ∙ eqb-true (total lines) (stated_sum line) records_on.1.1.1.0;
+      charged = orders_charged (stated_terms profile line) lines records_on.1.1.1.1.0;
     }

@@ -108,9 +108,9 @@ module _ (front more rest : List ℕ) (eleven : length (fields 0x7C front) ≡ 1
         let most = leb-true n 32 (and_right (leb 19 n) (leb n 32) is_record.fields_held) in
         rw (fields_in_back, le-leb 8 (suc k) (omega arith), le-leb (suc k) 21 (omega arith))
 
-    all-clean : (clean (front ++ (0x7C ∷ [])) ≡ true) × (clean (0x7C ∷ rest) ≡ true)
+    all_clean : (clean (front ++ (0x7C ∷ [])) ≡ true) × (clean (0x7C ∷ rest) ≡ true)
     unfolding clean stray
-    all-clean =
+    all_clean =
         let whole = is_record.is_clean in
         let formed = and_left (well_formed line) (not (stray line)) whole in
         let plain = neither (has_byte 0x0D line) (has_byte 0x0A line) (not-true (stray line) (and_right (well_formed line) (not (stray line)) whole)) in
@@ -130,7 +130,7 @@ module _ (front more rest : List ℕ) (eleven : length (fields 0x7C front) ≡ 1
     unfolding fault_around around fault_of
     judged ended =
         asked_yes 901 [] Refused _
-        (both_yes _ _ ended (both_yes _ _ begun (both_yes _ _ all-clean.0 all-clean.1)))
+        (both_yes _ _ ended (both_yes _ _ begun (both_yes _ _ all_clean.0 all_clean.1)))
         ∙ asked_none Refused _
         ∙ ap (λ qs. Fault (first_fault qs))
         (questions_alike (field_around (front ++ (0x7C ∷ [])) (0x7C ∷ rest)) (λ n. field n line) (said_of more) same_field
@@ -169,7 +169,7 @@ every_line_is_cut line held =
     let more = length-drop 12 fs in
     let front = parts_joined (0x7C ∷ []) (take 11 fs) in
     let back = parts_joined (0x7C ∷ []) (drop 12 fs) in
-    let in-front : fields 0x7C (front ++ (0x7C ∷ [])) ≡ take 11 fs ++ ([] ∷ []) =
+    let in_front : fields 0x7C (front ++ (0x7C ∷ [])) ≡ take 11 fs ++ ([] ∷ []) =
     fields_parted 0x7C front []
     ∙ rw (fields_of_joined 0x7C (take 11 fs) (omega (arith, eleven)) (without_taken 0x7C 11 fs (fields_without 0x7C line))) in
     let whole : line ≡ front ++ (0x7C ∷ (get_or fs 11 [] ++ (0x7C ∷ back))) =
@@ -179,7 +179,7 @@ every_line_is_cut line held =
     ∙ ap (λ (rest : List ℕ). front ++ (0x7C ∷ rest)) (joined_append (0x7C ∷ []) (get_or fs 11 [] ∷ []) (drop 12 fs) (omega arith) (omega (arith, more))) in
     record {
       whole = rw append_assoc whole;
-      ended = rw (in-front, get_or_at (take 11 fs) [] [] [] 11 eleven, length-append (take 11 fs) ([] ∷ []), eleven);
+      ended = rw (in_front, get_or_at (take 11 fs) [] [] [] 11 eleven, length-append (take 11 fs) ([] ∷ []), eleven);
       one_field = fields_without 0x7C line 11;
       begun = refl;
     }

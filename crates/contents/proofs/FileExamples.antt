@@ -51,7 +51,7 @@ abbrev profile : Profile
 profile = profiled (350 ∷ 350 ∷ 350 ∷ 350 ∷ 350 ∷ []) 19 (0 ∷ 0 ∷ 0 ∷ 0 ∷ 0 ∷ [])
 
 abbrev terms : ℕ → ℕ → Terms
-terms flat tenThousandths = record { flat = fee flat; rate = rate tenThousandths }
+terms flat ten_thousandths = record { flat = fee flat; rate = rate ten_thousandths }
 
 -- "ZS1: orders 100.00, 50.00 (no surname), 25.50."
 abbrev first : String

@@ -73,6 +73,6 @@ module _ (r count sum : ℕ) (terms : Terms) (file : List ℕ) where
       → judged ≡ judged_of (first_no (record_questions r count sum terms (records file))) (orders file)
       → kept ≡ kept_where judged (kept_from none_kept 0 (orders_read r file)) → record { judged = judged; kept = kept } ≡ records_of r count sum terms file
   unfolding records_of judged_records
-  records_within h is-judged is-kept =
+  records_within h is_judged is_kept =
       rw (le-leb r 32 h)
-      (λ t. record { judged = is-judged t; kept = (is-kept ∙ ap (λ j. kept_where j (kept_from none_kept 0 (orders_read r file))) is-judged) t })
+      (λ t. record { judged = is_judged t; kept = (is_kept ∙ ap (λ j. kept_where j (kept_from none_kept 0 (orders_read r file))) is_judged) t })

@@ -161,8 +161,8 @@ pub turn_of : (fields : ℕ) (terms : Terms) (s : List ℕ) (from at : ℕ) (tal
     → Turn fields terms s from at tally before kept read end
 unfolding next_line order_of
 turn_of fields terms s from at tally before kept read line end inside allowed going ends lined told =
-    let here-is : lines_from at s ≡ line ∷ lines_from (next_line at s) s = rw (lined, ends) (walk_on s at inside) in
-    let on_line = rw here-is at going in
+    let here_is : lines_from at s ≡ line ∷ lines_from (next_line at s) s = rw (lined, ends) (walk_on s at inside) in
+    let on_line = rw here_is at going in
     let shape = shape_of told allowed in
     record {
       small = record { few = going.few; little = going.little; fewer = going.fewer; bounded = told.within_cap_holds };

@@ -77,8 +77,8 @@ module _ (profile : Profile) (file : List ℕ) where
   unfolding records_of kept_where judged_of
   all_kept passed =
       let headed = verdict_first ∙ all_yes_passed first (yes_before first second (all_yes (first ++ second) (sym in_two ∙ passed))) in
-      let judged-is = decided_second headed ∙ ap (λ (v : Verdict). judged_of v (orders file)) passed in
-      ap (λ j. kept_where j (kept_from none_kept 0 (orders_read profile.fields file))) judged-is
+      let judged_is = decided_second headed ∙ ap (λ (v : Verdict). judged_of v (orders file)) passed in
+      ap (λ j. kept_where j (kept_from none_kept 0 (orders_read profile.fields file))) judged_is
       ∙ ap (kept_from none_kept 0) (accepted_is_read profile file passed)
 
 pub two_steps_are_contents : TwoStepsAreContents

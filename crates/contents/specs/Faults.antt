@@ -35,11 +35,11 @@ said_of more = record { empty = empty more; fails = not (empty more || extra mor
 
 -- Town and street at most 35 long, and one of them or extra not empty.
 unfoldable pub placed : List ℕ → List ℕ → Bool → Bool
-placed town street noExtra = sized 0 35 town && (sized 0 35 street && not (empty town && (empty street && noExtra)))
+placed town street no_extra = sized 0 35 town && (sized 0 35 street && not (empty town && (empty street && no_extra)))
 
 -- The house number at most 11 long, and it or extra not empty.
 unfoldable pub housed : List ℕ → Bool → Bool
-housed house noExtra = sized 0 11 house && not (empty house && noExtra)
+housed house no_extra = sized 0 11 house && not (empty house && no_extra)
 
 -- None of n fields from one on starts or ends with a space.
 unfoldable pub unspaced : ℕ → ℕ → (ℕ → List ℕ) → Bool

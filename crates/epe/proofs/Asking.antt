@@ -24,10 +24,10 @@ module _ {ℓ} {A : Type ℓ} (refused : ℕ → A) (next : A) where
   ask_none r e = e ∙ sym (asked_none refused next)
 
 -- two lists of questions, the second asked where the first passed
-module _ (ps qs : List Question) (verdict : Verdict) (is-first : verdict ≡ first_no ps) where
+module _ (ps qs : List Question) (verdict : Verdict) (is_first : verdict ≡ first_no ps) where
   pub join_no : is_passed verdict ≡ false → verdict ≡ first_no (ps ++ qs)
   unfolding is_passed
-  join_no h = go verdict is-first h
+  join_no h = go verdict is_first h
     where
       go : (v : Verdict) → v ≡ first_no ps → is_passed v ≡ false → v ≡ first_no (ps ++ qs)
       go Passed e h = absurd (true≢false h)
@@ -35,7 +35,7 @@ module _ (ps qs : List Question) (verdict : Verdict) (is-first : verdict ≡ fir
 
   pub join_yes : is_passed verdict ≡ true → first_no qs ≡ first_no (ps ++ qs)
   unfolding is_passed
-  join_yes h = go verdict is-first h
+  join_yes h = go verdict is_first h
     where
       go : (v : Verdict) → v ≡ first_no ps → is_passed v ≡ true → first_no qs ≡ first_no (ps ++ qs)
       go Passed e h = sym (asked_append ps qs Refused Passed ∙ asked_passed ps Refused (first_no qs) (sym e))

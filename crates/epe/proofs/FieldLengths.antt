@@ -23,6 +23,6 @@ bar_ascii = lt-ltb 0x7C 128 (lit< tt)
 pub fields_are_counted : FieldsAreCounted
 fields_are_counted file h k n =
     let line = get_or (lines (text file)) k [] in
-    let line-well = lines_are_well_formed (text file) (and_right (marked file) (well_formed (text file)) h) k in
-    let well = fields_are_well_formed 0x7C line bar_ascii line-well (n - 1) in
+    let line_well = lines_are_well_formed (text file) (and_right (marked file) (well_formed (text file)) h) k in
+    let well = fields_are_well_formed 0x7C line bar_ascii line_well (n - 1) in
     record { well_formed_holds = well; characters = counts_what_is_decoded (field n line) well }

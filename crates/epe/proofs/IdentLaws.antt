@@ -49,11 +49,11 @@ module _ (s : List ℕ) (n : ℕ) (fits : length s ≤ n) where
 
 pub held_apart : HeldApart
 unfolding ident_of
-held_apart s t is-s is-t alike =
-    let whole = rw (is-s, is-t) at alike in
+held_apart s t is_s is_t alike =
+    let whole = rw (is_s, is_t) at alike in
     let lens : length s ≡ length t = ap (λ (i : Ident). i.len) whole in
     let texts = ap (λ (i : Ident). i.bytes) whole in
-    sym (text_held s 17 (identifier_fits s is-s)) ∙ rw (lens, texts) (text_held t 17 (identifier_fits t is-t))
+    sym (text_held s 17 (identifier_fits s is_s)) ∙ rw (lens, texts) (text_held t 17 (identifier_fits t is_t))
 
 pub held_in_form : HeldInForm
 unfolding ident_of ident_in_form

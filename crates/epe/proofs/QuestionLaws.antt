@@ -44,13 +44,13 @@ module _ {ℓ} {A : Type ℓ} where
   pub asked_either {m} : (P : A → Type m) (qs : List Question) (refused : ℕ → A) (next : A)
       → ((n : ℕ) → P (refused n)) → (AllYes qs → P next) → P (asked qs refused next)
   unfolding asked
-  asked_either P [] refused next if-refused if-all-yes = if-all-yes tt
-  asked_either P (q ∷ qs) refused next if-refused if-all-yes =
-      go q.yes? (λ said. asked_either P qs refused next if-refused (λ all. if-all-yes (said, all)))
+  asked_either P [] refused next if_refused if_all_yes = if_all_yes tt
+  asked_either P (q ∷ qs) refused next if_refused if_all_yes =
+      go q.yes? (λ said. asked_either P qs refused next if_refused (λ all. if_all_yes (said, all)))
     where
       go : (t : Bool) → (t ≡ true → P (asked qs refused next)) → P (cond t (asked qs refused next) (refused q.number))
       go true rest = rest refl
-      go false rest = if-refused q.number
+      go false rest = if_refused q.number
 
   -- of a verdict on the questions
   pub asked_passed : (qs : List Question) (refused : ℕ → A) (next : A) → first_no qs ≡ Passed → asked qs refused next ≡ next

@@ -217,17 +217,17 @@ as_it_is title short = rw short
 before_ending : (title : List ℕ) → BeforeEnding title
 before_ending title =
     either_way (has_long_date title)
-    (λ long. by-long (long_at title long) long)
+    (λ long. by_long (long_at title long) long)
     (λ short. rw (short, as_it_is title short) (dated_itself refl))
   where
-    by-long : LongAt title → has_long_date title ≡ true → BeforeEnding title
-    by-long at long =
+    by_long : LongAt title → has_long_date title ≡ true → BeforeEnding title
+    by_long at long =
         let whole = at.whole in
-        let long-whole = rw whole at long in
+        let long_whole = rw whole at long in
         rw (
           whole,
-          long-whole,
-          long_shortened at.front at.rest at.parts long-whole,
+          long_whole,
+          long_shortened at.front at.rest at.parts long_whole,
           before_end at.front (0x2D ∷ 0x32 ∷ 0x30 ∷ []) at.rest at.enough,
           before_end at.front (0x2D ∷ []) at.rest at.enough,
         )
@@ -245,19 +245,19 @@ second_kept title {name} cut two is_name =
     sym (part_kept name (drop n title) 1 more)
     ∙ ap (λ (s : List ℕ). name_part 2 s) (ap (λ (s : List ℕ). s ++ drop n title) is_name ∙ take-append-drop n title)
 
-module _ (title : List ℕ) {name date : List ℕ} {long : Bool} (is-long : long ≡ has_long_date title) (is-date : date ≡ name_part 2 name) (is_name : name ≡ take (length title - 2) title) where
+module _ (title : List ℕ) {name date : List ℕ} {long : Bool} (is_long : long ≡ has_long_date title) (is_date : date ≡ name_part 2 name) (is_name : name ≡ take (length title - 2) title) where
   pub dated_by_long : long ≡ true → Dated name (drop 2 date) (title_name title)
-  dated_by_long h = rw (is-date, is_name) (rw (sym is-long ∙ h) at (before_ending title))
+  dated_by_long h = rw (is_date, is_name) (rw (sym is_long ∙ h) at (before_ending title))
 
   pub dated_by_short : long ≡ false → Dated name date (title_name title)
-  dated_by_short h = rw (is-date, is_name) (rw (sym is-long ∙ h) at (before_ending title))
+  dated_by_short h = rw (is_date, is_name) (rw (sym is_long ∙ h) at (before_ending title))
 
 -- its last two bytes are the short one's
 pub ending_kept : (title : List ℕ) → drop (length title - 2) title ≡ title_ending title
-ending_kept title = either_way (has_long_date title) (λ long. by-long (long_at title long) long) (λ short. rw (as_it_is title short))
+ending_kept title = either_way (has_long_date title) (λ long. by_long (long_at title long) long) (λ short. rw (as_it_is title short))
   where
-    by-long : LongAt title → has_long_date title ≡ true → drop (length title - 2) title ≡ title_ending title
-    by-long at long =
+    by_long : LongAt title → has_long_date title ≡ true → drop (length title - 2) title ≡ title_ending title
+    by_long at long =
         let whole = at.whole in
         rw (whole, long_shortened at.front at.rest at.parts (rw whole at long))
         (end at.front (0x2D ∷ 0x32 ∷ 0x30 ∷ []) at.rest at.enough ∙ sym (end at.front (0x2D ∷ []) at.rest at.enough))
@@ -283,9 +283,9 @@ long_of_six title six = go (parted title (omega (arith, six))) six
     go : Parted title → length (name_part 2 title) ≡ 6 → short_title (long_title title) ≡ short_title title
     go at six =
         let short = at.front ++ (0x2D ∷ at.rest) in
-        let six-there = rw (second_of at) at six in
-        rw (at.whole, lengthened at.front at.rest at.parts, long_shortened at.front at.rest at.parts (long_by_six at.front at.rest at.parts six-there))
-        (sym (as_it_is short (not_long_by_six at.front at.rest at.parts six-there)))
+        let six_there = rw (second_of at) at six in
+        rw (at.whole, lengthened at.front at.rest at.parts, long_shortened at.front at.rest at.parts (long_by_six at.front at.rest at.parts six_there))
+        (sym (as_it_is short (not_long_by_six at.front at.rest at.parts six_there)))
 
 pub long_means_short : LongMeansShort
 unfolding title_of title_questions

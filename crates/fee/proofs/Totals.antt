@@ -123,25 +123,25 @@ behind_both false u first second last answer kept e = absurd (false≢true (sym 
 
 -- what a choice of an amount or none says
 is_told : (t : Bool) (one grosze : ℕ) → cond t (Is (amount one)) Not ≡ Is (amount grosze) → (t ≡ true) × (one ≡ grosze)
-is_told true one grosze e = (refl, ap grosze-in e)
+is_told true one grosze e = (refl, ap grosze_in e)
   where
-    grosze-in : AmountFound → ℕ
-    grosze-in (Is found) = found.0
-    grosze-in Not = 0
-    grosze-in (Refused n) = 0
+    grosze_in : AmountFound → ℕ
+    grosze_in (Is found) = found.0
+    grosze_in Not = 0
+    grosze_in (Refused n) = 0
 is_told false one grosze e = absurd (false≢true (ap finds e))
 
 not_told : (t : Bool) (one : ℕ) → cond t (Is (amount one)) Not ≡ Not → t ≡ false
 not_told true one e = absurd (false≢true (sym (ap finds e)))
 not_told false one e = refl
 
-pub answers_total : (flat ofAmount total : ℕ) → AnswersTotal flat ofAmount total
+pub answers_total : (flat of_amount total : ℕ) → AnswersTotal flat of_amount total
 unfolding amount_for found_for
-answers_total flat ofAmount total =
-    let terms = terms_of flat ofAmount in
+answers_total flat of_amount total =
+    let terms = terms_of flat of_amount in
     let could = candidate terms total in
     let does = makes terms total could in
-    let behind = behind_both (is_rate ofAmount) (is_order_fee flat) 907 905 (cond does (Is (amount could)) Not) in
+    let behind = behind_both (is_rate of_amount) (is_order_fee flat) 907 905 (cond does (Is (amount could)) Not) in
     record {
       found = λ grosze e.
           let told = is_told does could grosze (behind (Is (amount grosze)) refl e) in

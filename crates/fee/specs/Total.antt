@@ -24,14 +24,14 @@ found_for terms total = cond (makes terms total (candidate terms total)) (Is (am
 
 -- "Given flat part, rate and total ..": two plain numbers as terms.
 abbrev pub terms_of : ℕ → ℕ → Terms
-terms_of flat ofAmount = record { flat = fee flat; rate = rate ofAmount }
+terms_of flat of_amount = record { flat = fee flat; rate = rate of_amount }
 
 -- "907 comes first here, then 905 for the flat part."
 unfoldable pub amount_for : ℕ → ℕ → ℕ → AmountFound
-amount_for flat ofAmount total = cond (is_rate ofAmount) (cond (is_order_fee flat) (found_for (terms_of flat ofAmount) total) (Refused 905)) (Refused 907)
+amount_for flat of_amount total = cond (is_rate of_amount) (cond (is_order_fee flat) (found_for (terms_of flat of_amount) total) (Refused 905)) (Refused 907)
 
 -- What is found makes the total. "None is said only if no amount from 1 to 999,999,999 does it, and no second amount does when one is found."
-pub record AnswersTotal (flat ofAmount total : ℕ) : Type 0 where
-  pub found : (grosze : ℕ) → amount_for flat ofAmount total ≡ Is (amount grosze) → makes (terms_of flat ofAmount) total grosze ≡ true
-  pub none : amount_for flat ofAmount total ≡ Not → (grosze : ℕ) → makes (terms_of flat ofAmount) total grosze ≡ false
-  pub alone : (one another : ℕ) → makes (terms_of flat ofAmount) total one ≡ true → makes (terms_of flat ofAmount) total another ≡ true → one ≡ another
+pub record AnswersTotal (flat of_amount total : ℕ) : Type 0 where
+  pub found : (grosze : ℕ) → amount_for flat of_amount total ≡ Is (amount grosze) → makes (terms_of flat of_amount) total grosze ≡ true
+  pub none : amount_for flat of_amount total ≡ Not → (grosze : ℕ) → makes (terms_of flat of_amount) total grosze ≡ false
+  pub alone : (one another : ℕ) → makes (terms_of flat of_amount) total one ≡ true → makes (terms_of flat of_amount) total another ≡ true → one ≡ another

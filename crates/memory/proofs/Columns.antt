@@ -36,7 +36,7 @@ module _ {money : Money} {m : List ℕ} {k n : ℕ} where
   module _ {total i left : ℕ} (going : Adding money m k n total i left) where
     pub adding_on : {grosze next : ℕ} → 0 < left → grosze ≡ worth money (row_of (row_bytes m i)) → grosze < 2 ^ 32 → next ≡ total + grosze
         → Adding money m k n next (i + 1) (left - 1)
-    adding_on more is low next-is = record {
+    adding_on more is low next_is = record {
       place = omega arith;
       sums = omega (arith, ap (sum_over (worth money)) (rows_on m i left more));
       low = omega arith;
@@ -46,5 +46,5 @@ module _ {money : Money} {m : List ℕ} {k n : ℕ} where
     adding_done done = omega (arith, ap (sum_over (worth money)) (rows_done m i left done))
 
     -- so many numbers of four bytes each are a sum
-    pub adding-within : n ≤ most_rows → WithinSum total
-    adding-within few = omega arith
+    pub adding_within : n ≤ most_rows → WithinSum total
+    adding_within few = omega arith

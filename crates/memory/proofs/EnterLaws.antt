@@ -76,20 +76,20 @@ module _ (terms : Terms) (order : Order) (k : ℕ) (m : List ℕ) (there : k < m
       let third = stored_is_read 2 with_fee (remainder_at k) (remainder_of terms grosze) in
       let code = code_stored with_remainder k (code_of (entered_state order)) in
       let long : size ≤ length with_remainder = omega (arith, first.as_long, second.as_long, third.as_long) in
-      let amount-there =
+      let amount_there =
       number_kept 2 with_fee (remainder_at k) _ 4 (amount_at k) (inl (omega arith))
       ∙ number_kept 4 with_amount (fee_at k) _ 4 (amount_at k) (inl (omega arith))
       ∙ first.back (omega arith) (omega (arith, fits.amount_fits_holds)) in
-      let fee-there =
+      let fee_there =
       number_kept 2 with_fee (remainder_at k) _ 4 (fee_at k) (inl (omega arith))
       ∙ second.back (omega (arith, first.as_long)) (omega (arith, fits.fee_fits_holds)) in
-      let remainder-there = third.back (omega (arith, first.as_long, second.as_long)) (omega arith) in
+      let remainder_there = third.back (omega (arith, first.as_long, second.as_long)) (omega arith) in
       let before = row_by with_remainder k there long (record {
         amount = amount grosze;
         fee = fee (fee_of terms grosze);
         remainder = remainder_of terms grosze;
         state = state_of (get_or with_remainder (code_at k) 0);
-      }) amount-there fee-there remainder-there refl in
+      }) amount_there fee_there remainder_there refl in
       let read = state_is_read_back (entered_state order) (entered_in_range order fits.fault_known) in
       record {
         row = code.row there long ∙ ap (with_state (state_of (code_of (entered_state order)))) before ∙ (λ i. record {
@@ -118,23 +118,23 @@ module _ (head : List ℕ) (i : ℕ) (m : List ℕ) where
   storing_none = record { within = omega arith; bytes = refl; only = only_none }
 
   module _ (whole : IsHead head) (few : i < most_shipments) (enough : size ≤ length m) where
-    as-long-as : IsHead (head_bytes m i)
+    as_long_as : IsHead (head_bytes m i)
     unfolding head_bytes
-    as-long-as = part_long m (head_at i) head_size (omega arith)
+    as_long_as = part_long m (head_at i) head_size (omega arith)
 
-    pub storing-one-more : (j : ℕ) (m' : List ℕ) → j < head_size → Storing head j i m m' → Storing head (j + 1) i m (set m' (head_at i + j) (get_or head j 0))
-    storing-one-more j m' more so_far = record {
+    pub storing_one_more : (j : ℕ) (m' : List ℕ) → j < head_size → Storing head j i m m' → Storing head (j + 1) i m (set m' (head_at i + j) (get_or head j 0))
+    storing_one_more j m' more so_far = record {
       within = omega arith;
       bytes =
           head_byte m' i j (get_or head j 0) more
           ∙ ap (λ bytes. set bytes j (get_or head j 0)) so_far.bytes
-          ∙ one_more head (head_bytes m i) j (omega arith) (omega (arith, as-long-as));
+          ∙ one_more head (head_bytes m i) j (omega arith) (omega (arith, as_long_as));
       only = only_again so_far.only (head_byte_only m' i j (get_or head j 0) more few);
     }
 
-    pub head-stored : (m' : List ℕ) → Storing head head_size i m m' → HeadStored head i m m'
-    head-stored m' so_far =
-        let none : drop head_size (head_bytes m i) ≡ [] = rw as-long-as at (drop-length (head_bytes m i)) in
+    pub head_stored : (m' : List ℕ) → Storing head head_size i m m' → HeadStored head i m m'
+    head_stored m' so_far =
+        let none : drop head_size (head_bytes m i) ≡ [] = rw as_long_as at (drop-length (head_bytes m i)) in
         record { bytes = so_far.bytes ∙ ap (λ rest. take head_size head ++ rest) none ∙ append-nil (take head_size head) ∙ take_all head_size head (omega arith); only = so_far.only }
 
 -- a number behind a list
@@ -174,8 +174,8 @@ module _ (name : Name) (terms : Terms) (n : ℕ) (long : length name.ident.bytes
   unfolding shipment_in number_at stage_of fields_of
   shipment_there fits terms_fit_holds rows =
       let date : number_at 4 head 18 ≡ name.date.0 = number_there 4 1 ∙ omega (arith, fits.date) in
-      let flat-there : number_at 4 head 24 ≡ terms.flat.0 = number_there 4 7 ∙ omega (arith, terms_fit_holds.0) in
-      let rate-there : number_at 2 head 64 ≡ terms.rate.0 = number_there 2 47 ∙ omega (arith, terms_fit_holds.1) in
+      let flat_there : number_at 4 head 24 ≡ terms.flat.0 = number_there 4 7 ∙ omega (arith, terms_fit_holds.0) in
+      let rate_there : number_at 2 head 64 ≡ terms.rate.0 = number_there 2 47 ∙ omega (arith, terms_fit_holds.1) in
       λ i. record {
         agreed = record {
           name = record {
@@ -184,7 +184,7 @@ module _ (name : Name) (terms : Terms) (n : ℕ) (long : length name.ident.bytes
             payment = byte_there 5 i;
             kind = byte_there 6 i;
           };
-          terms = record { flat = record { 0 = flat-there i }; rate = record { 0 = rate-there i } };
+          terms = record { flat = record { 0 = flat_there i }; rate = record { 0 = rate_there i } };
         };
         stage = stage_of (byte_there 11 i);
         go_ahead = eqb (byte_there 12 i) 1;
@@ -196,7 +196,7 @@ module _ (name : Name) (terms : Terms) (n : ℕ) (long : length name.ident.bytes
   pub head_entered : (i : ℕ) (m m' : List ℕ) → name_in_form name ≡ true → TermsFit terms → n < 2 ^ 16 → HeadStored head i m m'
       → HeadEntered name terms n i m m'
   unfolding number_at fields_of
-  head_entered i m m' in_form terms_fit_holds n-fits stored =
+  head_entered i m m' in_form terms_fit_holds n_fits stored =
       let orders : order_count_in head ≡ n = number_there 2 13 ∙ omega arith in
       record {
         shipment = λ rows. ap (λ bytes. shipment_in bytes rows) stored.bytes ∙ shipment_there (name_fits name in_form) terms_fit_holds rows;

@@ -29,9 +29,9 @@ only_then first then = record {
 
 pub only_wider : {heads heads' rows rows' : ℕ → Type 0} {m m' : List ℕ} → ((i : ℕ) → heads i → heads' i) → ((k : ℕ) → rows k → rows' k)
     → Only heads rows m m' → Only heads' rows' m m'
-only_wider more-heads more_rows only = record {
+only_wider more_heads more_rows only = record {
   shipments = only.shipments;
-  other_heads = λ i few apart. only.other_heads i few (λ here. apart (more-heads i here));
+  other_heads = λ i few apart. only.other_heads i few (λ here. apart (more_heads i here));
   other_rows = λ k there apart. only.other_rows k there (λ here. apart (more_rows k here));
   behind = only.behind;
   as_long = only.as_long;

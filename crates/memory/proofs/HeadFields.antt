@@ -23,34 +23,34 @@ unfolding shipment_in
 returned_in m i k K = refl
 returned_in m i k O = refl
 
-module _ (m : List ℕ) (i k : ℕ) {head : List ℕ} (is-head : head ≡ head_bytes m i) where
+module _ (m : List ℕ) (i k : ℕ) {head : List ℕ} (is_head : head ≡ head_bytes m i) where
   abbrev s : Shipment
   s = shipment_at m i k
 
   pub orders_are : order_count_in head ≡ orders_at m i
-  orders_are = ap order_count_in is-head
+  orders_are = ap order_count_in is_head
 
   pub terms_are : terms_in head ≡ s.agreed.terms
   unfolding shipment_in
-  terms_are = ap terms_in is-head
+  terms_are = ap terms_in is_head
 
   pub waiting_is : is_waiting (stage_in head) ≡ is_waiting s.stage
   unfolding shipment_in
-  waiting_is = ap (λ bytes. is_waiting (stage_in bytes)) is-head
+  waiting_is = ap (λ bytes. is_waiting (stage_in bytes)) is_head
 
   pub paired_is : is_paired (stage_in head) ≡ is_paired s.stage
   unfolding shipment_in
-  paired_is = ap (λ bytes. is_paired (stage_in bytes)) is-head
+  paired_is = ap (λ bytes. is_paired (stage_in bytes)) is_head
 
   pub go_ahead_is : go_ahead_in head ≡ s.go_ahead
   unfolding shipment_in
-  go_ahead_is = ap go_ahead_in is-head
+  go_ahead_is = ap go_ahead_in is_head
 
   pub accepted_is : (money : Money) → transfers_in money head ≡ accepted money s
-  accepted_is money = ap (transfers_in money) is-head ∙ accepted_in_lem m i k money
+  accepted_is money = ap (transfers_in money) is_head ∙ accepted_in_lem m i k money
 
   pub returned_is : (money : Money) → surplus_in money head ≡ returned money s
-  returned_is money = ap (surplus_in money) is-head ∙ returned_in m i k money
+  returned_is money = ap (surplus_in money) is_head ∙ returned_in m i k money
 
   -- of a sound shipment both are sums
   module _ (sits : Sits m i k) (money : Money) where

@@ -128,7 +128,7 @@ paired_byte byte =
 
 -- the sums of either money, each by itself
 both_sums : (head : List ℕ) (at : Money → ℕ) {k o : ℕ} → number_at 8 head (at K) ≡ k → number_at 8 head (at O) ≡ o → sums_in at head ≡ record { k = k; o = o }
-both_sums head at is-k is-o = λ i. record { k = is-k i; o = is-o i }
+both_sums head at is_k is_o = λ i. record { k = is_k i; o = is_o i }
 
 module _ (head : List ℕ) (rows : List Row) (whole : IsHead head) where
   stage_stored : (stage : Stage) → shipment_in (set head stage_at (stage_byte stage)) rows ≡ with_stage stage (shipment_in head rows)
@@ -179,7 +179,7 @@ module _ (head : List ℕ) (rows : List Row) (whole : IsHead head) where
     above q h = number_behind at (at + 8) head after elsewhere 8 q h
 
     -- the shipment, whatever its sums then are
-    with-sums : (accepted returned : PerMoney) → sums_in accepted_at after ≡ accepted → sums_in returned_at after ≡ returned
+    with_sums : (accepted returned : PerMoney) → sums_in accepted_at after ≡ accepted → sums_in returned_at after ≡ returned
         → shipment_in after rows ≡ record {
           agreed = agreed_in head;
           stage = stage_in head;
@@ -189,12 +189,12 @@ module _ (head : List ℕ) (rows : List Row) (whole : IsHead head) where
           rows = rows;
         }
     unfolding shipment_in
-    with-sums accepted returned are-accepted are-returned = λ i. record {
+    with_sums accepted returned are_accepted are_returned = λ i. record {
       agreed = same_agreed at (at + 8) head after elsewhere (omega arith) (omega arith) i;
       stage = stage_of (elsewhere.before stage_at (omega arith) i);
       go_ahead = eqb (elsewhere.before go_ahead_at (omega arith) i) 1;
-      accepted_sums = are-accepted i;
-      returned_sums = are-returned i;
+      accepted_sums = are_accepted i;
+      returned_sums = are_returned i;
       rows = rows;
     }
 
@@ -204,13 +204,13 @@ module _ (head : List ℕ) (rows : List Row) (whole : IsHead head) where
   accepted_stored K n fits =
       let x = number_at 8 head 32 + n in
       let same : (q : ℕ) → 40 ≤ q → number_at 8 (with_number 8 head 32 x) q ≡ number_at 8 head q = above 32 x (omega arith) (omega arith) fits in
-      with-sums 32 x (omega arith) (omega arith) fits (plus_in K n (sums_in accepted_at head)) (sums_in returned_at head)
+      with_sums 32 x (omega arith) (omega arith) fits (plus_in K n (sums_in accepted_at head)) (sums_in returned_at head)
       (both_sums _ accepted_at (there 32 x (omega arith) (omega arith) fits) (omega (arith, same 40 (omega arith))))
       (both_sums _ returned_at (same 48 (omega arith)) (same 56 (omega arith)))
   accepted_stored O n fits =
       let x = number_at 8 head 40 + n in
       let same : (q : ℕ) → 48 ≤ q → number_at 8 (with_number 8 head 40 x) q ≡ number_at 8 head q = above 40 x (omega arith) (omega arith) fits in
-      with-sums 40 x (omega arith) (omega arith) fits (plus_in O n (sums_in accepted_at head)) (sums_in returned_at head)
+      with_sums 40 x (omega arith) (omega arith) fits (plus_in O n (sums_in accepted_at head)) (sums_in returned_at head)
       (both_sums _ accepted_at (omega (arith, below 40 x (omega arith) (omega arith) fits 32 (omega arith))) (there 40 x (omega arith) (omega arith) fits))
       (both_sums _ returned_at (same 48 (omega arith)) (same 56 (omega arith)))
 
@@ -220,13 +220,13 @@ module _ (head : List ℕ) (rows : List Row) (whole : IsHead head) where
   returned_stored K n fits =
       let x = number_at 8 head 48 + n in
       let same : (q : ℕ) → q + 8 ≤ 48 → number_at 8 (with_number 8 head 48 x) q ≡ number_at 8 head q = below 48 x (omega arith) (omega arith) fits in
-      with-sums 48 x (omega arith) (omega arith) fits (sums_in accepted_at head) (plus_in K n (sums_in returned_at head))
+      with_sums 48 x (omega arith) (omega arith) fits (sums_in accepted_at head) (plus_in K n (sums_in returned_at head))
       (both_sums _ accepted_at (same 32 (omega arith)) (same 40 (omega arith)))
       (both_sums _ returned_at (there 48 x (omega arith) (omega arith) fits) (omega (arith, above 48 x (omega arith) (omega arith) fits 56 (omega arith))))
   returned_stored O n fits =
       let x = number_at 8 head 56 + n in
       let same : (q : ℕ) → q + 8 ≤ 56 → number_at 8 (with_number 8 head 56 x) q ≡ number_at 8 head q = below 56 x (omega arith) (omega arith) fits in
-      with-sums 56 x (omega arith) (omega arith) fits (sums_in accepted_at head) (plus_in O n (sums_in returned_at head))
+      with_sums 56 x (omega arith) (omega arith) fits (sums_in accepted_at head) (plus_in O n (sums_in returned_at head))
       (both_sums _ accepted_at (same 32 (omega arith)) (same 40 (omega arith)))
       (both_sums _ returned_at (omega (arith, same 48 (omega arith))) (there 56 x (omega arith) (omega arith) fits))
 

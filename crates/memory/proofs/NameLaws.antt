@@ -32,16 +32,16 @@ one_byte head at = omega arith
 abbrev pub same_words : List ℕ → List ℕ → Bool
 same_words a b = alike a b 8 0 && (alike a b 8 8 && alike a b 2 16)
 
-module _ (a b : List ℕ) (long-a : IsHead a) (long-b : IsHead b)
-    (bytes-a : (j : ℕ) → get_or a j 0 < 256) (bytes-b : (j : ℕ) → get_or b j 0 < 256) where
+module _ (a b : List ℕ) (long_a : IsHead a) (long_b : IsHead b)
+    (bytes_a : (j : ℕ) → get_or a j 0 < 256) (bytes_b : (j : ℕ) → get_or b j 0 < 256) where
   parts : (m n at : ℕ) → alike a b (m + n) at ≡ (alike a b m at && alike a b n (at + m))
-  parts = by_parts a b bytes-a bytes-b
+  parts = by_parts a b bytes_a bytes_b
 
   pub by_words : same_ident (name_in a).ident (name_in b).ident ≡ same_words a b
   unfolding same_ident
   by_words =
       and_comm (eqb (get_or a 17 0) (get_or b 17 0)) (same (take 17 a) (take 17 b))
-      ∙ rw (← one_byte a 17, ← one_byte b 17, ← by_bytes a b bytes-a bytes-b 17 0 (omega arith) (omega arith)) (sym (parts 17 1 0))
+      ∙ rw (← one_byte a 17, ← one_byte b 17, ← by_bytes a b bytes_a bytes_b 17 0 (omega arith) (omega arith)) (sym (parts 17 1 0))
       ∙ parts 8 10 0
       ∙ ap (λ rest. alike a b 8 0 && rest) (parts 8 2 8)
 

@@ -22,9 +22,9 @@ number_alike zero l l' p q same = refl
 number_alike (suc width) l l' p q same =
     let first = rw (add-zero p, add-zero q) at (same 0 (omega arith)) in
     let rest = number_alike width l l' (suc p) (suc q) (λ j h.
-    let next-p : suc p + j ≡ p + suc j = omega arith in
-    let next-q : suc q + j ≡ q + suc j = omega arith in
-    rw (next-p, next-q) (same (suc j) (omega arith))) in
+    let next_p : suc p + j ≡ p + suc j = omega arith in
+    let next_q : suc q + j ≡ q + suc j = omega arith in
+    rw (next_p, next_q) (same (suc j) (omega arith))) in
     omega (arith, first, rest)
 
 pub stored_is_read : (width : ℕ) (m : List ℕ) (at n : ℕ) → StoredIsRead width m at n
@@ -95,7 +95,7 @@ abbrev pub alike : List ℕ → List ℕ → ℕ → ℕ → Bool
 alike a b width at = eqb (number_at width a at) (number_at width b at)
 
 by_least_byte : (x y m n : ℕ) → x < 256 → y < 256 → eqb (x + 256 * m) (y + 256 * n) ≡ (eqb x y && eqb m n)
-by_least_byte x y m n low_x low-y =
+by_least_byte x y m n low_x low_y =
     both_ways (eqb (x + 256 * m) (y + 256 * n)) (eqb x y && eqb m n)
     (λ whole. both_yes (eqb x y) (eqb m n) (eq-eqb x y (omega (arith, eqb-true))) (eq-eqb m n (omega (arith, eqb-true))))
     (λ parts.
@@ -103,11 +103,11 @@ by_least_byte x y m n low_x low-y =
     let rest = eqb-true m n (and_right (eqb x y) (eqb m n) parts) in
     eq-eqb (x + 256 * m) (y + 256 * n) (omega arith))
 
-module _ (a b : List ℕ) (bytes-a : (j : ℕ) → get_or a j 0 < 256) (bytes-b : (j : ℕ) → get_or b j 0 < 256) where
+module _ (a b : List ℕ) (bytes_a : (j : ℕ) → get_or a j 0 < 256) (bytes_b : (j : ℕ) → get_or b j 0 < 256) where
   by_first_byte : (width at : ℕ) → alike a b (suc width) at ≡ (eqb (get_or a at 0) (get_or b at 0) && alike a b width (suc at))
   unfolding number_at
   by_first_byte width at =
-      by_least_byte (get_or a at 0) (get_or b at 0) (number_at width a (suc at)) (number_at width b (suc at)) (bytes-a at) (bytes-b at)
+      by_least_byte (get_or a at 0) (get_or b at 0) (number_at width a (suc at)) (number_at width b (suc at)) (bytes_a at) (bytes_b at)
 
   pub by_parts : (m n at : ℕ) → alike a b (m + n) at ≡ (alike a b m at && alike a b n (at + m))
   unfolding number_at
@@ -120,9 +120,9 @@ module _ (a b : List ℕ) (bytes-a : (j : ℕ) → get_or a j 0 < 256) (bytes-b 
   pub by_bytes : (width at : ℕ) → at + width ≤ length a → at + width ≤ length b
       → alike a b width at ≡ same (take width (drop at a)) (take width (drop at b))
   unfolding number_at same
-  by_bytes zero at long-a long-b = refl
-  by_bytes (suc width) at long-a long-b =
-      let there-a : at < length a = omega arith in
-      let there-b : at < length b = omega arith in
+  by_bytes zero at long_a long_b = refl
+  by_bytes (suc width) at long_a long_b =
+      let there_a : at < length a = omega arith in
+      let there_b : at < length b = omega arith in
       rw (drop-cons a at 0, drop-cons b at 0)
       (by_first_byte width at ∙ ap (λ rest. eqb (get_or a at 0) (get_or b at 0) && rest) (by_bytes width (suc at) (omega arith) (omega arith)))

@@ -69,9 +69,9 @@ returned_row route money row = by (waits_on route money row)
     by false = refl
 
 -- and by the table of a route and a money
-module _ (route : Route) (money : Money) (table : List ℕ) (is-table : WaitTable route money table) (code : ℕ) (byte : code < 256) where
+module _ (route : Route) (money : Money) (table : List ℕ) (is_table : WaitTable route money table) (code : ℕ) (byte : code < 256) where
   pub taken_few : get_or table code 0 ≤ 2
-  taken_few = rw (is-table.told code byte) (by (code_waits route money code) money)
+  taken_few = rw (is_table.told code byte) (by (code_waits route money code) money)
     where
       by : (t : Bool) (money : Money) → only_if t (by_money money 1 2) ≤ 2
       by true K = omega arith
@@ -79,7 +79,7 @@ module _ (route : Route) (money : Money) (table : List ℕ) (is-table : WaitTabl
       by false money = omega arith
 
   pub taken_within : get_or table code 0 ≤ code
-  taken_within = rw (is-table.told code byte) (by (code_waits route money code) refl)
+  taken_within = rw (is_table.told code byte) (by (code_waits route money code) refl)
     where
       least : (money : Money) → code_waits route money code ≡ true → by_money money 1 2 ≤ code
       least K h = omega (arith, eqb-true (code % 2) 1 (and_right (route_has route code) (k_waits code) h))
@@ -90,28 +90,28 @@ module _ (route : Route) (money : Money) (table : List ℕ) (is-table : WaitTabl
       by false h = omega arith
 
   module _ (m : List ℕ) (k : ℕ) (there : k < most_rows) (enough : size ≤ length m) (code_is : code ≡ code_in (row_bytes m k)) where
-    state-then : state_of (code - get_or table code 0) ≡ state_after route money (state_of (code_in (row_bytes m k)))
-    state-then = rw (is-table.told code byte) (after_by_code route money code byte ∙ ap (λ c. state_after route money (state_of c)) code_is)
+    state_then : state_of (code - get_or table code 0) ≡ state_after route money (state_of (code_in (row_bytes m k)))
+    state_then = rw (is_table.told code byte) (after_by_code route money code byte ∙ ap (λ c. state_after route money (state_of c)) code_is)
 
-    code-there : code ≡ get_or m (code_at k) 0
-    code-there = code_is ∙ code_in_lem m k there enough
+    code_there : code ≡ get_or m (code_at k) 0
+    code_there = code_is ∙ code_in_lem m k there enough
 
-    pub row-returned : RowReturned route money k m (with_code_at m k (code - get_or table code 0)) (get_or table code 0)
+    pub row_returned : RowReturned route money k m (with_code_at m k (code - get_or table code 0)) (get_or table code 0)
     unfolding row_of with_code_at
-    row-returned =
+    row_returned =
         let stored = code_stored m k (code - get_or table code 0) in
         let row = row_of (row_bytes m k) in
         record {
-          row = stored.row there enough ∙ ap (λ x. with_state x row) state-then ∙ returned_row route money row;
+          row = stored.row there enough ∙ ap (λ x. with_state x row) state_then ∙ returned_row route money row;
           only = stored.only there;
-          took = is-table.told code byte
+          took = is_table.told code byte
               ∙ ap (λ t. only_if t (by_money money 1 2)) (waits_by_code route money code byte ∙ ap (λ c. waits_in route money (state_of c)) code_is);
           still = λ none.
-              ap (λ n. set m (code_at k) (code - n)) none ∙ ap (set m (code_at k)) (none-taken code ∙ code-there) ∙ set-get_or m (code_at k) 0;
+              ap (λ n. set m (code_at k) (code - n)) none ∙ ap (set m (code_at k)) (none_taken code ∙ code_there) ∙ set-get_or m (code_at k) 0;
         }
       where
-        none-taken : (n : ℕ) → n - 0 ≡ n
-        none-taken n = omega arith
+        none_taken : (n : ℕ) → n - 0 ≡ n
+        none_taken n = omega arith
 
 -- as code makes it, byte after byte
 pub record RepliesBelow (route : Route) (money : Money) (n : ℕ) (table : List ℕ) : Type 0 where
@@ -125,16 +125,16 @@ module _ {route : Route} {money : Money} where
 
   module _ {n : ℕ} {table : List ℕ} (so_far : RepliesBelow route money n table) where
     pub told_more : {wait : ℕ} → n < 256 → wait ≡ wait_in route money n → RepliesBelow route money (n + 1) (set table n wait)
-    told_more {wait} more wait-is = record {
+    told_more {wait} more wait_is = record {
       long = length-set table n wait ∙ so_far.long;
       within = omega arith;
       told = λ code below.
           either_way (eqb code n)
-          (λ here. rw (eqb-true code n here) (get_or-set_same table n wait 0 (omega (arith, so_far.long)) ∙ wait-is))
+          (λ here. rw (eqb-true code n here) (get_or-set_same table n wait 0 (omega (arith, so_far.long)) ∙ wait_is))
           (λ there.
           let apart = eqb-false code n there in
           get_or-set_other table n code wait 0 apart ∙ so_far.told code (omega arith));
     }
 
-    pub told-all : 256 ≤ n → WaitTable route money table
-    told-all all = record { long = so_far.long; told = λ code byte. so_far.told code (omega arith) }
+    pub told_all : 256 ≤ n → WaitTable route money table
+    told_all all = record { long = so_far.long; told = λ code byte. so_far.told code (omega arith) }

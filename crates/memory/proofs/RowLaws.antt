@@ -62,10 +62,10 @@ pub row_by : (m : List ℕ) (k : ℕ) → k < most_rows → size ≤ length m �
     → number_at 4 m (amount_at k) ≡ row.amount.0 → number_at 4 m (fee_at k) ≡ row.fee.0 → number_at 2 m (remainder_at k) ≡ row.remainder
     → state_of (get_or m (code_at k) 0) ≡ row.state → row_of (row_bytes m k) ≡ row
 unfolding row_of
-row_by m k there enough row is-amount is-fee is-remainder is_state = λ i. record {
-  amount = record { 0 = (amount_in_lem m k there enough ∙ is-amount) i };
-  fee = record { 0 = (fee_in m k there enough ∙ is-fee) i };
-  remainder = (remainder_in m k there enough ∙ is-remainder) i;
+row_by m k there enough row is_amount is_fee is_remainder is_state = λ i. record {
+  amount = record { 0 = (amount_in_lem m k there enough ∙ is_amount) i };
+  fee = record { 0 = (fee_in m k there enough ∙ is_fee) i };
+  remainder = (remainder_in m k there enough ∙ is_remainder) i;
   state = (ap state_of (code_in_lem m k there enough) ∙ is_state) i;
 }
 

@@ -146,40 +146,40 @@ module _ (ident : Ident) (s : Shipment) (b : Balanced s) where
     unpaired : is_paired s.stage ≡ false
     unpaired = waiting_unpaired s.stage waits
 
-    no-need : (money : Money) → need_once_paired money s ≡ 0
-    no-need money = only_if_false (is_paired s.stage) (need money s) unpaired
+    no_need : (money : Money) → need_once_paired money s ≡ 0
+    no_need money = only_if_false (is_paired s.stage) (need money s) unpaired
 
     none_held : (money : Money) → held money s ≡ 0
     unfolding held
     none_held money = only_if_false (is_paired s.stage) (sum_over (held_by money) s.rows) unpaired
 
-    close-conserves : (money : Money) → held money s + free money s + 0 ≡ held money (with_stage Closed s) + free money (with_stage Closed s) + 0
+    close_conserves : (money : Money) → held money s + free money s + 0 ≡ held money (with_stage Closed s) + free money (with_stage Closed s) + 0
     unfolding held free
-    close-conserves money = omega (arith, no-need money, none_held money)
+    close_conserves money = omega (arith, no_need money, none_held money)
 
-    close-fair : Fair (On ident Close) s (leave Done (with_stage Closed s))
-    close-fair = record {
+    close_fair : Fair (On ident Close) s (leave Done (with_stage Closed s))
+    close_fair = record {
       name = refl;
       refused = λ e. absurd (false≢true e);
-      conserves = close-conserves;
+      conserves = close_conserves;
       grows = λ money. omega arith;
     }
 
     -- both needs covered
     module _ (covers : (money : Money) → need money s ≤ accepted money s) where
-      pair-covers : (money : Money) → need money (with_stage Paired s) + returned money s ≤ accepted money s
+      pair_covers : (money : Money) → need money (with_stage Paired s) + returned money s ≤ accepted money s
       unfolding need
-      pair-covers money = omega (arith, covers money, b.unreturned waits money)
+      pair_covers money = omega (arith, covers money, b.unreturned waits money)
 
-      pair-conserves : (money : Money) → held money s + free money s + 0 ≡ held money (with_stage Paired s) + free money (with_stage Paired s) + 0
+      pair_conserves : (money : Money) → held money s + free money s + 0 ≡ held money (with_stage Paired s) + free money (with_stage Paired s) + 0
       unfolding held free need
-      pair-conserves money = omega (arith, no-need money, none_held money, pair-covers money, b.whole unpaired money)
+      pair_conserves money = omega (arith, no_need money, none_held money, pair_covers money, b.whole unpaired money)
 
-      pair-fair : Fair (On ident Pair) s (leave IsPaired (with_stage Paired s))
-      pair-fair = record {
+      pair_fair : Fair (On ident Pair) s (leave IsPaired (with_stage Paired s))
+      pair_fair = record {
         name = refl;
         refused = λ e. absurd (false≢true e);
-        conserves = pair-conserves;
+        conserves = pair_conserves;
         grows = λ money. omega arith;
       }
 
@@ -188,13 +188,13 @@ module _ (ident : Ident) (s : Shipment) (b : Balanced s) where
 
   closed_fair : Fair (On ident Close) s (closed s)
   unfolding closed
-  closed_fair = fairly _ s _ _ (λ yes. close-fair yes.0)
+  closed_fair = fairly _ s _ _ (λ yes. close_fair yes.0)
 
   paired_fair : Fair (On ident Pair) s (paired s)
   unfolding paired
   paired_fair =
       fairly _ s _ _
-      (λ yes. cond_either (Fair (On ident Pair) s) (needs_covered s) _ _ (λ covered. pair-fair yes.0 (both_covered s covered)) (λ short. short_fair _ _))
+      (λ yes. cond_either (Fair (On ident Pair) s) (needs_covered s) _ _ (λ covered. pair_fair yes.0 (both_covered s covered)) (λ short. short_fair _ _))
 
 -- new orders in a Paired shipment: what they hold falls by what left, and the need stays
 module _ (call : Call) (s : Shipment) (b : Balanced s) (is-paired : is_paired s.stage ≡ true) (rows : List Row) (answer : Answer) where
@@ -203,28 +203,28 @@ module _ (call : Call) (s : Shipment) (b : Balanced s) (is-paired : is_paired s.
       (fallen : (money : Money) → sum_over (held_by money) rows + (moved call answer).goes_out money ≡ sum_over (held_by money) s.rows)
       (none_in : (money : Money) → (moved call answer).comes_in money ≡ 0)
       (taken : is_refusal answer ≡ false) where
-    rows-need : (money : Money) → need_once_paired money (with_rows rows s) ≡ need_once_paired money s
+    rows_need : (money : Money) → need_once_paired money (with_rows rows s) ≡ need_once_paired money s
     unfolding need
-    rows-need money = ap (only_if (is_paired s.stage)) (sums money)
+    rows_need money = ap (only_if (is_paired s.stage)) (sums money)
 
-    rows-conserve : (money : Money)
+    rows_conserve : (money : Money)
         → held money s + free money s + (moved call answer).comes_in money ≡ held money (with_rows rows s) + free money (with_rows rows s) + (moved call answer).goes_out money
     unfolding held free
-    rows-conserve money =
+    rows_conserve money =
         omega (
           arith,
-          rows-need money,
+          rows_need money,
           fallen money,
           none_in money,
           only_if_true (is_paired s.stage) (sum_over (held_by money) rows) is-paired,
           only_if_true (is_paired s.stage) (sum_over (held_by money) s.rows) is-paired,
         )
 
-    rows-fair : Fair call s (leave answer (with_rows rows s))
-    rows-fair = record {
+    rows_fair : Fair call s (leave answer (with_rows rows s))
+    rows_fair = record {
       name = refl;
       refused = λ e. absurd (not_both (is_refusal answer) e taken);
-      conserves = rows-conserve;
+      conserves = rows_conserve;
       grows = λ money. omega (arith, none_in money);
     }
 
@@ -262,10 +262,10 @@ module _ (ident : Ident) (deed : Deed) (number : ℕ) (s : Shipment) (b : Balanc
   after = with_state (becomes deed) order
 
   module _ (is-paired : is_paired s.stage ≡ true) (there : number - 1 < length s.rows) (fitting : fits deed order.state ≡ true) where
-    deed-held : (money : Money)
+    deed_held : (money : Money)
         → sum_over (held_by money) (set s.rows (number - 1) after) + (moved (On ident (OnOrder deed number)) (says deed order)).goes_out money
         ≡ sum_over (held_by money) s.rows
-    deed-held money =
+    deed_held money =
         omega (
           arith,
           sum_set (held_by money) s.rows (number - 1) after no_order there,
@@ -273,17 +273,17 @@ module _ (ident : Ident) (deed : Deed) (number : ℕ) (s : Shipment) (b : Balanc
           ap (λ state. held_by money (with_state state order)) (fitting_state deed order.state fitting),
         )
 
-    deed-fair : Fair (On ident (OnOrder deed number)) s (leave (says deed order) (with_rows (set s.rows (number - 1) after) s))
-    deed-fair =
-        rows-fair (On ident (OnOrder deed number)) s b is-paired (set s.rows (number - 1) after) (says deed order)
+    deed_fair : Fair (On ident (OnOrder deed number)) s (leave (says deed order) (with_rows (set s.rows (number - 1) after) s))
+    deed_fair =
+        rows_fair (On ident (OnOrder deed number)) s b is-paired (set s.rows (number - 1) after) (says deed order)
         (λ money. omega (arith, sum_set (worth money) s.rows (number - 1) after no_order there))
-        deed-held
+        deed_held
         (deed_brings_none deed ident number order)
         (deed_taken deed order)
 
   on_order_fair : Fair (On ident (OnOrder deed number)) s (on_order deed number s)
   unfolding on_order
-  on_order_fair = fairly _ s _ _ (λ yes. deed-fair yes.0 (in_range _ number yes.1.0) yes.1.1.0)
+  on_order_fair = fairly _ s _ _ (λ yes. deed_fair yes.0 (in_range _ number yes.1.0) yes.1.1.0)
 
 -- what waits on a route goes back: an order holds less just what it waited with, and nothing less of the other money
 abbrev after_if : Bool → Money → Row → Row
@@ -353,7 +353,7 @@ module _ (ident : Ident) (route : Route) (money : Money) (s : Shipment) (b : Bal
   return_fair : (count : ℕ) → is_paired s.stage ≡ true
       → Fair (On ident (Return route money)) s (leave (Returned (waiting route money s) count) (with_rows (map (after_return route money) s.rows) s))
   return_fair count is-paired =
-      rows-fair (On ident (Return route money)) s b is-paired (map (after_return route money) s.rows) (Returned (waiting route money s) count)
+      rows_fair (On ident (Return route money)) s b is-paired (map (after_return route money) s.rows) (Returned (waiting route money s) count)
       (λ other. return_worth route money other s.rows)
       (returned_held route s money)
       (λ other. refl)

@@ -116,23 +116,23 @@ module _ (s : Shipment) (h : InOrder s) where
   transfer_fits O K n e = omega (arith, (h.moneys K).accepted_fits)
 
   module _ (money : Money) (n : ℕ) where
-    transfer-adds : (other : Money) → accepted other s ≤ accepted other (with_accepted money n s)
-    transfer-adds K = omega arith
-    transfer-adds O = omega arith
+    transfer_adds : (other : Money) → accepted other s ≤ accepted other (with_accepted money n s)
+    transfer_adds K = omega arith
+    transfer_adds O = omega arith
 
-    transfer-money : accepted money s + n ≤ sum_cap → (other : Money) → MoneyInOrder other (with_accepted money n s)
+    transfer_money : accepted money s + n ≤ sum_cap → (other : Money) → MoneyInOrder other (with_accepted money n s)
     unfolding need
-    transfer-money e other =
+    transfer_money e other =
         let m = h.moneys other in
         record {
           accepted_fits = transfer_fits money other n e;
           returned_fits = m.returned_fits;
-          covered = omega (arith, m.covered, transfer-adds other);
+          covered = omega (arith, m.covered, transfer_adds other);
           unreturned = m.unreturned;
         }
 
-    transfer-kept : leb (accepted money s + n) sum_cap ≡ true → Kept s (leave Done (with_accepted money n s))
-    transfer-kept e = record {
+    transfer_kept : leb (accepted money s + n) sum_cap ≡ true → Kept s (leave Done (with_accepted money n s))
+    transfer_kept e = record {
       in_order = record {
         name_in_form = h.name_in_form;
         terms_fit_holds = h.terms_fit_holds;
@@ -140,7 +140,7 @@ module _ (s : Shipment) (h : InOrder s) where
         rows_sound = h.rows_sound;
         go_ahead_with_faults = h.go_ahead_with_faults;
         faults_with_go_ahead = h.faults_with_go_ahead;
-        moneys = transfer-money (leb-true (accepted money s + n) sum_cap e);
+        moneys = transfer_money (leb-true (accepted money s + n) sum_cap e);
       };
       same_name = refl;
       as_many = refl;
@@ -175,9 +175,9 @@ module _ (s : Shipment) (h : InOrder s) where
 
   -- a stage after Waiting, in which what is needed is covered
   module _ (stage : Stage) (waiting : is_waiting s.stage ≡ true) (over : is_waiting stage ≡ false) where
-    stage-money : (money : Money) → only_if (is_paired stage) (need money s) ≤ accepted money s → MoneyInOrder money (with_stage stage s)
+    stage_money : (money : Money) → only_if (is_paired stage) (need money s) ≤ accepted money s → MoneyInOrder money (with_stage stage s)
     unfolding need
-    stage-money money e =
+    stage_money money e =
         let m = h.moneys money in
         record {
           accepted_fits = m.accepted_fits;
@@ -186,10 +186,10 @@ module _ (s : Shipment) (h : InOrder s) where
           unreturned = λ w. absurd (not_both (is_waiting stage) w over);
         }
 
-    stage-kept : (answer : Answer) → (is_paired stage ≡ true → any_faulty s.rows ≡ true → s.go_ahead ≡ true)
+    stage_kept : (answer : Answer) → (is_paired stage ≡ true → any_faulty s.rows ≡ true → s.go_ahead ≡ true)
         → ((money : Money) → only_if (is_paired stage) (need money s) ≤ accepted money s)
         → Kept s (leave answer (with_stage stage s))
-    stage-kept answer go_ahead_holds covers =
+    stage_kept answer go_ahead_holds covers =
         let unpaired = waiting_unpaired s.stage waiting in
         record {
           in_order = record {
@@ -199,7 +199,7 @@ module _ (s : Shipment) (h : InOrder s) where
             rows_sound = rows_later s.agreed.terms s.stage stage (λ p. absurd (not_both (is_paired s.stage) p unpaired)) s.rows h.rows_sound;
             go_ahead_with_faults = h.go_ahead_with_faults;
             faults_with_go_ahead = go_ahead_holds;
-            moneys = λ money. stage-money money (covers money);
+            moneys = λ money. stage_money money (covers money);
           };
           same_name = refl;
           as_many = refl;
@@ -207,9 +207,9 @@ module _ (s : Shipment) (h : InOrder s) where
 
   -- new rows of a Paired shipment, as many and of the same worth
   module _ (rows : List Row) (count : length rows ≡ length s.rows) (sums : (money : Money) → sum_over (worth money) rows ≡ sum_over (worth money) s.rows) where
-    rows-money : (money : Money) → MoneyInOrder money (with_rows rows s)
+    rows_money : (money : Money) → MoneyInOrder money (with_rows rows s)
     unfolding need
-    rows-money money =
+    rows_money money =
         let m = h.moneys money in
         record {
           accepted_fits = m.accepted_fits;
@@ -227,7 +227,7 @@ module _ (s : Shipment) (h : InOrder s) where
         rows_sound = sound;
         go_ahead_with_faults = λ gone. faults ∙ h.go_ahead_with_faults gone;
         faults_with_go_ahead = λ p faulty. h.faults_with_go_ahead p (sym faults ∙ faulty);
-        moneys = rows-money;
+        moneys = rows_money;
       };
       same_name = refl;
       as_many = count;
@@ -238,9 +238,9 @@ module _ (s : Shipment) (h : InOrder s) where
     abbrev deed_done : Row
     deed_done = with_state (becomes deed) (order_at number s)
 
-    order-kept : is_paired s.stage ≡ true → between 1 (length s.rows) number ≡ true → fits deed (order_at number s).state ≡ true
+    order_kept : is_paired s.stage ≡ true → between 1 (length s.rows) number ≡ true → fits deed (order_at number s).state ≡ true
         → Kept s (leave (says deed (order_at number s)) (with_rows (set s.rows (number - 1) deed_done) s))
-    order-kept p within fit =
+    order_kept p within fit =
         let row = order_at number s in
         let there = in_range (length s.rows) number within in
         let was = row_at s.agreed.terms s.stage s.rows (number - 1) there h.rows_sound in
@@ -273,9 +273,9 @@ module _ (s : Shipment) (h : InOrder s) where
   surplus_covered O K = omega (arith, (h.moneys K).covered)
 
   module _ (money : Money) (over : is_waiting s.stage ≡ false) where
-    surplus-money : (other : Money) → MoneyInOrder other (with_returned money (free money s) s)
+    surplus_money : (other : Money) → MoneyInOrder other (with_returned money (free money s) s)
     unfolding need
-    surplus-money other =
+    surplus_money other =
         let m = h.moneys other in
         let covered = surplus_covered money other in
         record {
@@ -285,8 +285,8 @@ module _ (s : Shipment) (h : InOrder s) where
           unreturned = λ w. absurd (not_both (is_waiting s.stage) w over);
         }
 
-    surplus-kept : (answer : Answer) → Kept s (leave answer (with_returned money (free money s) s))
-    surplus-kept answer = record {
+    surplus_kept : (answer : Answer) → Kept s (leave answer (with_returned money (free money s) s))
+    surplus_kept answer = record {
       in_order = record {
         name_in_form = h.name_in_form;
         terms_fit_holds = h.terms_fit_holds;
@@ -294,7 +294,7 @@ module _ (s : Shipment) (h : InOrder s) where
         rows_sound = h.rows_sound;
         go_ahead_with_faults = h.go_ahead_with_faults;
         faults_with_go_ahead = h.faults_with_go_ahead;
-        moneys = surplus-money;
+        moneys = surplus_money;
       };
       same_name = refl;
       as_many = refl;
@@ -303,7 +303,7 @@ module _ (s : Shipment) (h : InOrder s) where
 -- each call on a shipment: its questions, then what was shown above
 pub transferred_kept : (money : Money) (n : ℕ) (s : Shipment) → InOrder s → Kept s (transferred money n s)
 unfolding transferred
-transferred_kept money n s h = kept s _ _ h (λ yes. transfer-kept s h money n yes.0)
+transferred_kept money n s h = kept s _ _ h (λ yes. transfer_kept s h money n yes.0)
 
 gone_ahead_kept : (s : Shipment) → InOrder s → Kept s (gone_ahead s)
 unfolding gone_ahead
@@ -314,16 +314,16 @@ unfolding paired
 paired_kept s h =
     kept s _ _ h
     (λ yes. cond_either (Kept s) (needs_covered s) _ _
-    (λ covered. stage-kept s h Paired yes.0 refl IsPaired (λ p. where_first (any_faulty s.rows) s.go_ahead yes.1.0) (both_covered s covered))
+    (λ covered. stage_kept s h Paired yes.0 refl IsPaired (λ p. where_first (any_faulty s.rows) s.go_ahead yes.1.0) (both_covered s covered))
     (λ short. unchanged s _ h))
 
 closed_kept : (s : Shipment) → InOrder s → Kept s (closed s)
 unfolding closed
-closed_kept s h = kept s _ _ h (λ yes. stage-kept s h Closed yes.0 refl Done (λ p. absurd (false≢true p)) (λ money. omega arith))
+closed_kept s h = kept s _ _ h (λ yes. stage_kept s h Closed yes.0 refl Done (λ p. absurd (false≢true p)) (λ money. omega arith))
 
 on_order_kept : (deed : Deed) (number : ℕ) (s : Shipment) → InOrder s → Kept s (on_order deed number s)
 unfolding on_order
-on_order_kept deed number s h = kept s _ _ h (λ yes. order-kept s h deed number yes.0 yes.1.0 yes.1.1.0)
+on_order_kept deed number s h = kept s _ _ h (λ yes. order_kept s h deed number yes.0 yes.1.0 yes.1.1.0)
 
 returned_kept : (route : Route) (money : Money) (s : Shipment) → InOrder s → Kept s (returned_by route money s)
 unfolding returned_by
@@ -331,7 +331,7 @@ returned_kept route money s h = kept s _ _ h (λ yes. return_kept s h route mone
 
 surplus_returned_kept : (money : Money) (s : Shipment) → InOrder s → Kept s (surplus_returned money s)
 unfolding surplus_returned
-surplus_returned_kept money s h = kept s _ _ h (λ yes. surplus-kept s h money (not-true (is_waiting s.stage) yes.0) _)
+surplus_returned_kept money s h = kept s _ _ h (λ yes. surplus_kept s h money (not-true (is_waiting s.stage) yes.0) _)
 
 pub acted_kept : (act : Act) (s : Shipment) → InOrder s → Kept s (acted act s)
 unfolding acted

@@ -37,8 +37,8 @@ quiet_entire call book ident money says kept = omega (arith, says.quiet money, n
   where
     nothing : left_with_orders money ident book call ≡ 0
     nothing =
-        let worthOf : ℕ → ℕ = λ j. worth_of_order money j (find ident book) in
-        below_none (orders_of (find ident book)) (λ j. only_if (leaves money ident j book call) (worthOf j)) (λ j. ap (λ t. only_if t (worthOf j)) (kept j))
+        let worth_of : ℕ → ℕ = λ j. worth_of_order money j (find ident book) in
+        below_none (orders_of (find ident book)) (λ j. only_if (leaves money ident j book call) (worth_of j)) (λ j. ap (λ t. only_if t (worth_of j)) (kept j))
 
 refusal : (call : Call) (book : Book) (number : ℕ) → Quiet call (stay (Refused number) book)
 refusal call book number = record { quiet = λ money. refl }

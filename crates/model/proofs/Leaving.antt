@@ -175,11 +175,11 @@ module _ (ident : Ident) (act : Act) (s : Shipment) where
   quiet o named rows stays surplus = record {
     named = named;
     once = λ money j. rw (stays money j, rows) (omega arith);
-    entire = λ money. omega (arith, surplus money, none-with money);
+    entire = λ money. omega (arith, surplus money, none_with money);
   }
     where
-      none-with : (money : Money) → left_with money o ≡ 0
-      none-with money =
+      none_with : (money : Money) → left_with money o ≡ 0
+      none_with money =
           below_none (length s.rows) (λ j. only_if (leaves_at money j o) (worth money (order_by_index j (some s))))
           (λ j. ap (λ t. only_if t (worth money (order_by_index j (some s)))) (stays money j))
 
@@ -270,23 +270,23 @@ module _ (ident : Ident) (deed : Deed) (number : ℕ) (s : Shipment)
 
   -- of the places below the count, the one that is named
   module _ (money : Money) where
-    abbrev ifTaken : Bool → ℕ → ℕ
-    ifTaken t j = only_if (t && takes_out deed money) (worth money (order_by_index j (some s)))
+    abbrev if_taken : Bool → ℕ → ℕ
+    if_taken t j = only_if (t && takes_out deed money) (worth money (order_by_index j (some s)))
 
-    deed-place : left_with ident (OnOrder deed number) s money done ≡ only_if (takes_out deed money) (worth money (order_at number s))
-    deed-place =
+    deed_place : left_with ident (OnOrder deed number) s money done ≡ only_if (takes_out deed money) (worth money (order_at number s))
+    deed_place =
         below_same (length s.rows) (λ j. only_if (leaves_at ident (OnOrder deed number) s money j done) (worth money (order_by_index j (some s))))
-        (λ j. ifTaken (eqb number (j + 1)) j)
+        (λ j. if_taken (eqb number (j + 1)) j)
         (λ j. ap (λ t. only_if t (worth money (order_by_index j (some s)))) (deed_leaves_at money j))
-        ∙ below_one (length s.rows) (number - 1) (λ j. ifTaken (eqb number (j + 1)) j) inside
-        (λ j apart. ap (λ t. ifTaken t j) (elsewhere j apart))
-        ∙ ap (λ t. ifTaken t (number - 1)) (eq-eqb number (number - 1 + 1) (omega (arith, first)))
+        ∙ below_one (length s.rows) (number - 1) (λ j. if_taken (eqb number (j + 1)) j) inside
+        (λ j apart. ap (λ t. if_taken t j) (elsewhere j apart))
+        ∙ ap (λ t. if_taken t (number - 1)) (eq-eqb number (number - 1 + 1) (omega (arith, first)))
 
   deed_entire : (money : Money)
       → (moved call done.answer).goes_out money ≡ left_with ident (OnOrder deed number) s money done + (moved call done.answer).surplus money
   deed_entire money =
       let row = order_at number s in
-      omega (arith, deed_left ident number row deed money, deed_surplus ident number row deed money, deed-place money)
+      omega (arith, deed_left ident number row deed money, deed_surplus ident number row deed money, deed_place money)
 
   deed_done : Leaves ident (OnOrder deed number) s done
   deed_done = record { named = refl; once = deed_once; entire = deed_entire }
@@ -432,12 +432,12 @@ transferred_keeps title amount money n s =
 pub none_leaves : (money : Money) (j : ℕ) (call : Call) → order_named call ≡ 0 → ((total orders : ℕ) → when_returned call total orders ≡ nothing)
     → (answer : Answer) (before after : Row) → (moved call answer).takes_from money j before after ≡ false
 none_leaves money j call of_none back_none (Refused n) before after = refl
-none_leaves money j call of_none back_none Done before after = done-takes-none call
+none_leaves money j call of_none back_none Done before after = done_takes_none call
   where
-    done-takes-none : (call : Call) → (moved call Done).takes_from money j before after ≡ false
-    done-takes-none (Intake profile name file) = refl
-    done-takes-none (Transfer title amount) = refl
-    done-takes-none (On ident act) = refl
+    done_takes_none : (call : Call) → (moved call Done).takes_from money j before after ≡ false
+    done_takes_none (Intake profile name file) = refl
+    done_takes_none (Transfer title amount) = refl
+    done_takes_none (On ident act) = refl
 none_leaves money j call of_none back_none (Accepted orders faulty) before after = refl
 none_leaves money j call of_none back_none IsPaired before after = refl
 none_leaves money j call of_none back_none (Short k o) before after = refl

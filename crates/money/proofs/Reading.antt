@@ -26,8 +26,8 @@ module _ (most : ℕ) (s : List ℕ) where
   pub too_short : length s < 3 → NoAmount ≡ text_of most s
   unfolding text_of together number
   too_short h =
-      let nothing-before : length s - 3 ≡ 0 = omega arith in
-      cond_either (λ r. NoAmount ≡ r) is_shaped (together (number 1 most (part 0 (length s - 3) s)) (number 2 2 (part (length s - 2) (length s) s))) NoAmount (λ t. rw nothing-before) (λ t. refl)
+      let nothing_before : length s - 3 ≡ 0 = omega arith in
+      cond_either (λ r. NoAmount ≡ r) is_shaped (together (number 1 most (part 0 (length s - 3) s)) (number 2 2 (part (length s - 2) (length s) s))) NoAmount (λ t. rw nothing_before) (λ t. refl)
 
   pub not_shaped : is_shaped ≡ false → NoAmount ≡ text_of most s
   unfolding text_of

@@ -52,7 +52,7 @@ module _ {memory codes : List ℕ} {k n : ℕ} {found : Found} {done : ℕ} (so_
   pub finding_on : (state : State) {next : Found} → state ≡ (row_of (row_bytes memory (k + done))).state → n ≤ 2_048 → next ≡ found_order codes found (done + 1) state
       → Finding memory codes k n next (done + 1)
   unfolding found_in rows_from
-  finding_on state is_state most is-next =
+  finding_on state is_state most is_next =
       let few = so_far.few in
       let short = so_far.short in
       let running = places_at_most 20 (found.count + 1) (omega arith) (omega arith) in
@@ -60,13 +60,13 @@ module _ {memory codes : List ℕ} {k n : ℕ} {found : Found} {done : ℕ} (so_
       let count = counted codes found (done + 1) state in
       let long = measured codes found (done + 1) state running number in
       let left : n - done ≡ suc (n - (done + 1)) = omega arith in
-      let next-number : done + 1 + 1 ≡ suc (done + 1) = omega arith in
+      let next_number : done + 1 + 1 ≡ suc (done + 1) = omega arith in
       let next_row : k + (done + 1) ≡ suc (k + done) = omega arith in
-      rw is-next (record {
+      rw is_next (record {
         far = omega arith;
         few = omega arith;
         short = omega arith;
-        rest = rw (next-number, next_row, is_state) (rw left at so_far.rest);
+        rest = rw (next_number, next_row, is_state) (rw left at so_far.rest);
       })
 
 pub finding_done : {memory codes : List ℕ} {k n : ℕ} {found : Found} {done : ℕ} → Finding memory codes k n found done → n ≤ done

@@ -60,14 +60,14 @@ unfolding name_in_form ident_in_form
 source_formed s sound = let formed = (in_order s sound).name_in_form in search halves
 
 pub ope_source : (s : Shipment) → shipment_sound s ≡ true → {source : List ℕ} → source ≡ source_of s → length source ≤ 17
-ope_source s sound is-source = rw is-source (identifier_fits (source_of s) (source_formed s sound))
+ope_source s sound is_source = rw is_source (identifier_fits (source_of s) (source_formed s sound))
 
 -- at its place
 module _ (m : List ℕ) (i k : ℕ) (own : List ℕ) (created : ℕ) (codes output : List ℕ) where
   pub ope_there : {source : List ℕ} {n : ℕ} → source ≡ source_of (shipment_at m i k) → n ≡ orders_at m i
       → ope_on own created codes output source (faulty_from 1 (rows_from m k n)) ≡ ope_of own created codes output (some (shipment_at m i k))
   unfolding ope_of shipment_in
-  ope_there is-source is-count = λ j. ope_on own created codes output (is-source j) (faulty_from 1 (rows_from m k (is-count j)))
+  ope_there is_source is_count = λ j. ope_on own created codes output (is_source j) (faulty_from 1 (rows_from m k (is_count j)))
 
 -- and of a book, by where the shipment is found
 module _ (m : List ℕ) (ident : Ident) (own : List ℕ) (created : ℕ) (codes output : List ℕ) where

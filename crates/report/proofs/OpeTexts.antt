@@ -114,7 +114,7 @@ module _ (own : List ℕ) (created : ℕ) (source : List ℕ) (count : ℕ) (rec
   pub ope_left : {at : ℕ} {now : List ℕ} → at ≡ length opening → now ≡ put_at 0 opening output
       → Left 0 (ope_text own created source count records) output at (spelled count ++ records) now
   unfolding ope_text
-  ope_left is_at is-now = first_put opening (spelled count ++ records) output fits is_at is-now
+  ope_left is_at is_now = first_put opening (spelled count ++ records) output fits is_at is_now
 
 -- how long it is
 pub ope_long : (own : List ℕ) (created : ℕ) (source : List ℕ) (count : ℕ) (records : List ℕ)

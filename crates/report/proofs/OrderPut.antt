@@ -52,10 +52,10 @@ module _ (codes : List ℕ) (number fault : ℕ) {k o : Bool} {state : State} (i
   pub record_put : (code : ℕ) → code ≡ code_for codes fault → {at : ℕ} {output' : List ℕ} → at ≡ put.at + length (record_text put.running number code)
       → output' ≡ put_at put.at (record_text put.running number code) output
       → PutOrder codes number state put output (record { at = at; running = put.running + 1 }) output'
-  record_put code is_code is_at is-output =
+  record_put code is_code is_at is_output =
       let text = one_record ∙ ap (λ (n : ℕ). record_text put.running number n) (sym is_code) in
       record {
-        text = is-output ∙ ap (λ (s : List ℕ). put_at put.at s output) (sym text);
+        text = is_output ∙ ap (λ (s : List ℕ). put_at put.at s output) (sym text);
         place = is_at ∙ ap (λ (s : List ℕ). put.at + length s) (sym text);
         next = ap (λ (s : State). put.running + length (before_faulty number s [])) (sym is);
       }

@@ -149,22 +149,22 @@ module _ (own : List ℕ) (created : ℕ) (source : List ℕ) (refusal : ℕ) (f
 
   -- by what it comes to
   module _ (result : List ℕ) (rows : List (List (List ℕ))) (is : rkf own created source refusal ≡ file (header_of (bytes "RKF") own created source result ∷ rows))
-      (plain-result : plain result ≡ true) (full-rows : AllFull rows) where
+      (plain_result : plain result ≡ true) (full_rows : AllFull rows) where
     full : AllFull (header_of (bytes "RKF") own created source result ∷ rows)
     unfolding plain is_plain ascii
     full = (
-      header_full (bytes "RKF") own created source result refl (identifier_plain own own_in_form) (identifier_plain source source_in_form) plain-result,
-      full-rows,
+      header_full (bytes "RKF") own created source result refl (identifier_plain own own_in_form) (identifier_plain source source_in_form) plain_result,
+      full_rows,
     )
 
-    rkf-header : HeaderReads (rkf own created source refusal) (bytes "RKF") own created source
-    rkf-header = rw is (header_reads (bytes "RKF") own created source result rows full moment)
+    rkf_header : HeaderReads (rkf own created source refusal) (bytes "RKF") own created source
+    rkf_header = rw is (header_reads (bytes "RKF") own created source result rows full moment)
 
-    rkf-result : field 9 (header (rkf own created source refusal)) ≡ result
-    rkf-result = rw is (outcome_read (bytes "RKF") own created source result rows full moment)
+    rkf_result : field 9 (header (rkf own created source refusal)) ≡ result
+    rkf_result = rw is (outcome_read (bytes "RKF") own created source result rows full moment)
 
-    rkf-records : records (rkf own created source refusal) ≡ map line rows
-    rkf-records = rw is (others_read (header_of (bytes "RKF") own created source result) rows full)
+    rkf_records : records (rkf own created source refusal) ≡ map line rows
+    rkf_records = rw is (others_read (header_of (bytes "RKF") own created source result) rows full)
 
   rkf_good : refusal ≡ 0 → rkf own created source refusal ≡ file (header_of (bytes "RKF") own created source (bytes "1") ∷ [])
   unfolding rkf rkf_lines
@@ -180,7 +180,7 @@ module _ (own : List ℕ) (created : ℕ) (source : List ℕ) (refusal : ℕ) (f
   unfolding plain is_plain ascii
   when_good zero_is =
       let is = rkf_good zero_is in
-      (rkf-header (bytes "1") [] is refl tt, rkf-result (bytes "1") [] is refl tt, rkf-records (bytes "1") [] is refl tt)
+      (rkf_header (bytes "1") [] is refl tt, rkf_result (bytes "1") [] is refl tt, rkf_records (bytes "1") [] is refl tt)
 
   when_bad : (refusal ≡ 0 → ⊥) → HeaderReads (rkf own created source refusal) (bytes "RKF") own created source
       × (field 9 (header (rkf own created source refusal)) ≡ bytes "0") × (records (rkf own created source refusal) ≡ line (record_of 1 0 refusal) ∷ [])
@@ -189,7 +189,7 @@ module _ (own : List ℕ) (created : ℕ) (source : List ℕ) (refusal : ℕ) (f
       let is = rkf_bad not_zero in
       let rows = record_of 1 0 refusal ∷ [] in
       let full : AllFull (record_of 1 0 refusal ∷ []) = (record_full 1 0 refusal, tt) in
-      (rkf-header (bytes "0") rows is refl full, rkf-result (bytes "0") rows is refl full, rkf-records (bytes "0") rows is refl full)
+      (rkf_header (bytes "0") rows is refl full, rkf_result (bytes "0") rows is refl full, rkf_records (bytes "0") rows is refl full)
 
 pub rkf_reads_back : RkfReadsBack
 rkf_reads_back own created source refusal fits = record {

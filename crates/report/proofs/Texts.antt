@@ -149,13 +149,13 @@ module _ (own : List ℕ) (created : ℕ) (source : List ℕ) (refusal : ℕ) wh
       (λ not. let a = length-append rkf_opening (bytes "0" ++ record_text 1 0 refusal) in let whole = rw (rkf_refused not) at fits in omega arith)
 
   module _ (output : List ℕ) (fits : length (rkf own created source refusal) ≤ length output) {at : ℕ} {now : List ℕ} (is_at : at ≡ length rkf_opening)
-      (is-now : now ≡ put_at 0 rkf_opening output) where
-    pub left-accepted : eqb refusal 0 ≡ true → Left 0 (rkf own created source refusal) output at (bytes "1") now
-    left-accepted is = rw (rkf_accepted is) (first_put rkf_opening (bytes "1") output (rw (rkf_accepted is) at fits) is_at is-now)
+      (is_now : now ≡ put_at 0 rkf_opening output) where
+    pub left_accepted : eqb refusal 0 ≡ true → Left 0 (rkf own created source refusal) output at (bytes "1") now
+    left_accepted is = rw (rkf_accepted is) (first_put rkf_opening (bytes "1") output (rw (rkf_accepted is) at fits) is_at is_now)
 
-    pub left-refused : eqb refusal 0 ≡ false → Left 0 (rkf own created source refusal) output at (bytes "0" ++ record_text 1 0 refusal) now
-    left-refused not =
-        rw (rkf_refused not) (first_put rkf_opening (bytes "0" ++ record_text 1 0 refusal) output (rw (rkf_refused not) at fits) is_at is-now)
+    pub left_refused : eqb refusal 0 ≡ false → Left 0 (rkf own created source refusal) output at (bytes "0" ++ record_text 1 0 refusal) now
+    left_refused not =
+        rw (rkf_refused not) (first_put rkf_opening (bytes "0" ++ record_text 1 0 refusal) output (rw (rkf_refused not) at fits) is_at is_now)
 
 -- identifiers that can stand in their fields are at most 17 bytes
 pub rkf_identifiers : (own : List ℕ) (created : ℕ) (source : List ℕ) (refusal : ℕ) → fits_rkf own created source refusal ≡ true

@@ -40,9 +40,9 @@ shared_in O true false n = omega arith
 shared_in O false true n = omega arith
 shared_in O false false n = omega arith
 
-module _ (money : Money) (row : Row) {own holding : ℕ} (own_is : own ≡ worth money row) (holding-is : holding ≡ holding_of row.state) where
+module _ (money : Money) (row : Row) {own holding : ℕ} (own_is : own ≡ worth money row) (holding_is : holding ≡ holding_of row.state) where
   held_in_lem : own * share money holding ≡ held_by money row
-  held_in_lem = (λ t. own_is t * share money (holding-is t)) ∙ by money
+  held_in_lem = (λ t. own_is t * share money (holding_is t)) ∙ by money
     where
       by : (money : Money) → worth money row * share money (holding_of row.state) ≡ held_by money row
       by K = shared_in K (holds K row.state) (holds O row.state) (worth K row)
@@ -53,7 +53,7 @@ pub holding_most : (row : Row) {holding : ℕ} → holding ≡ holding_of row.st
 holding_most row is = omega (arith, is, at_most (holds K row.state) 1, at_most (holds O row.state) 2)
 
 product_small : (own part : ℕ) → own < 2 ^ 32 → part ≤ 1 → own * part < 2 ^ 32
-product_small own part small at-most-once = by part at-most-once
+product_small own part small at_most_once = by part at_most_once
   where
     by : (part : ℕ) → part ≤ 1 → own * part < 2 ^ 32
     by zero h = omega arith
@@ -69,21 +69,21 @@ with_part_fits sum own part room small once = omega (arith, room, product_small 
 pub with_part_within : (sum own part : ℕ) → WithinSum (sum + 2 ^ 32) → own < 2 ^ 32 → part ≤ 1 → WithinSum (sum + own * part)
 with_part_within sum own part room small once = omega (arith, room, product_small own part small once)
 
-module _ (parts : Parts) (row : Row) {own : Amount} {its-fee : Fee} {holding : ℕ} (own_is : own ≡ row.amount) (fee-is : its-fee ≡ row.fee)
-    (holding-is : holding ≡ holding_of row.state) {amounts held : Amount} {fees fees_held : Fee} (amounts_are : amounts ≡ amount (parts.amounts.0 + own.0))
-    (held-are : held ≡ amount (parts.held.0 + own.0 * (holding % 2))) (fees_are : fees ≡ fee (parts.fees.0 + its-fee.0))
-    (fees-held-are : fees_held ≡ fee (parts.fees_held.0 + its-fee.0 * (holding / 2))) where
+module _ (parts : Parts) (row : Row) {own : Amount} {its_fee : Fee} {holding : ℕ} (own_is : own ≡ row.amount) (fee_is : its_fee ≡ row.fee)
+    (holding_is : holding ≡ holding_of row.state) {amounts held : Amount} {fees fees_held : Fee} (amounts_are : amounts ≡ amount (parts.amounts.0 + own.0))
+    (held_are : held ≡ amount (parts.held.0 + own.0 * (holding % 2))) (fees_are : fees ≡ fee (parts.fees.0 + its_fee.0))
+    (fees_held_are : fees_held ≡ fee (parts.fees_held.0 + its_fee.0 * (holding / 2))) where
   amounts_sum : amounts ≡ amount (parts.amounts.0 + worth K row)
   amounts_sum = amounts_are ∙ (λ t. amount (parts.amounts.0 + (own_is t).0))
 
   held_sum : held ≡ amount (parts.held.0 + held_by K row)
-  held_sum = held-are ∙ ap (λ n. amount (parts.held.0 + n)) (held_in_lem K row (ap (λ (a : Amount). a.0) own_is) holding-is)
+  held_sum = held_are ∙ ap (λ n. amount (parts.held.0 + n)) (held_in_lem K row (ap (λ (a : Amount). a.0) own_is) holding_is)
 
   fees_sum : fees ≡ fee (parts.fees.0 + worth O row)
-  fees_sum = fees_are ∙ (λ t. fee (parts.fees.0 + (fee-is t).0))
+  fees_sum = fees_are ∙ (λ t. fee (parts.fees.0 + (fee_is t).0))
 
   fees_held_sum : fees_held ≡ fee (parts.fees_held.0 + held_by O row)
-  fees_held_sum = fees-held-are ∙ ap (λ n. fee (parts.fees_held.0 + n)) (held_in_lem O row (ap (λ (a : Fee). a.0) fee-is) holding-is)
+  fees_held_sum = fees_held_are ∙ ap (λ n. fee (parts.fees_held.0 + n)) (held_in_lem O row (ap (λ (a : Fee). a.0) fee_is) holding_is)
 
   pub order_added : record { amounts = amounts; held = held; fees = fees; fees_held = fees_held } ≡ with_order parts row
   order_added = λ t. record { amounts = amounts_sum t; held = held_sum t; fees = fees_sum t; fees_held = fees_held_sum t }
@@ -97,27 +97,27 @@ pub record Going (m : List ℕ) (k n : ℕ) (parts : Parts) (i left : ℕ) : Typ
 
 module _ {m : List ℕ} {k n : ℕ} where
   pub begun : Going m k n no_parts k n
-  begun = record { place = refl; whole = whole-begun; held = held-begun; held_low = low-begun }
+  begun = record { place = refl; whole = whole_begun; held = held_begun; held_low = low_begun }
     where
-      whole-begun : (money : Money) → Adding money m k n (whole_in money no_parts) k n
-      whole-begun K = adding_begun
-      whole-begun O = adding_begun
+      whole_begun : (money : Money) → Adding money m k n (whole_in money no_parts) k n
+      whole_begun K = adding_begun
+      whole_begun O = adding_begun
 
-      held-begun : (money : Money) → held_in money no_parts + sum_over (held_by money) (rows_from m k n) ≡ sum_over (held_by money) (rows_from m k n)
-      held-begun K = omega arith
-      held-begun O = omega arith
+      held_begun : (money : Money) → held_in money no_parts + sum_over (held_by money) (rows_from m k n) ≡ sum_over (held_by money) (rows_from m k n)
+      held_begun K = omega arith
+      held_begun O = omega arith
 
-      low-begun : (money : Money) → held_in money no_parts ≤ whole_in money no_parts
-      low-begun K = omega arith
-      low-begun O = omega arith
+      low_begun : (money : Money) → held_in money no_parts ≤ whole_in money no_parts
+      low_begun K = omega arith
+      low_begun O = omega arith
 
   module _ {parts : Parts} {i left : ℕ} (going : Going m k n parts i left) where
     -- the first of them
     abbrev here : Row
     here = row_of (row_bytes m i)
 
-    pub still-small : 0 < left → n ≤ most_rows → SmallParts parts
-    still-small more few = record {
+    pub still_small : 0 < left → n ≤ most_rows → SmallParts parts
+    still_small more few = record {
       amounts = omega (arith, (going.whole K).low);
       held = omega (arith, (going.whole K).low, going.held_low K);
       fees = omega (arith, (going.whole O).low);
@@ -126,57 +126,57 @@ module _ {m : List ℕ} {k n : ℕ} where
 
     pub one_more : {next : Parts} → 0 < left → next ≡ with_order parts here
         → next.amounts.0 < parts.amounts.0 + 2 ^ 32 → next.fees.0 < parts.fees.0 + 2 ^ 32 → Going m k n next (i + 1) (left - 1)
-    one_more {next} more next-is amount-small fee-small = record { place = omega (arith, going.place); whole = whole-on; held = held_on; held_low = low-on }
+    one_more {next} more next_is amount_small fee_small = record { place = omega (arith, going.place); whole = whole_on; held = held_on; held_low = low_on }
       where
-        whole-next : (money : Money) → whole_in money next ≡ whole_in money parts + worth money here
-        whole-next K = ap (whole_in K) next-is
-        whole-next O = ap (whole_in O) next-is
+        whole_next : (money : Money) → whole_in money next ≡ whole_in money parts + worth money here
+        whole_next K = ap (whole_in K) next_is
+        whole_next O = ap (whole_in O) next_is
 
         held_next : (money : Money) → held_in money next ≡ held_in money parts + held_by money here
-        held_next K = ap (held_in K) next-is
-        held_next O = ap (held_in O) next-is
+        held_next K = ap (held_in K) next_is
+        held_next O = ap (held_in O) next_is
 
         small : (money : Money) → whole_in money next < whole_in money parts + 2 ^ 32
-        small K = amount-small
-        small O = fee-small
+        small K = amount_small
+        small O = fee_small
 
-        whole-on : (money : Money) → Adding money m k n (whole_in money next) (i + 1) (left - 1)
-        whole-on money = adding_on (going.whole money) more refl (omega (arith, whole-next money, small money)) (whole-next money)
+        whole_on : (money : Money) → Adding money m k n (whole_in money next) (i + 1) (left - 1)
+        whole_on money = adding_on (going.whole money) more refl (omega (arith, whole_next money, small money)) (whole_next money)
 
         held_on : (money : Money) → held_in money next + sum_over (held_by money) (rows_from m (i + 1) (left - 1)) ≡ sum_over (held_by money) (rows_from m k n)
         held_on money = omega (arith, going.held money, held_next money, ap (sum_over (held_by money)) (rows_on m i left more))
 
-        low-on : (money : Money) → held_in money next ≤ whole_in money next
-        low-on money = omega (arith, going.held_low money, held_next money, whole-next money, at_most (holds money here.state) (worth money here))
+        low_on : (money : Money) → held_in money next ≤ whole_in money next
+        low_on money = omega (arith, going.held_low money, held_next money, whole_next money, at_most (holds money here.state) (worth money here))
 
-    pub all-added : left ≤ 0 → parts ≡ parts_of (rows_from m k n)
-    all-added done =
-        let held-are : (money : Money) → held_in money parts ≡ sum_over (held_by money) (rows_from m k n)
+    pub all_added : left ≤ 0 → parts ≡ parts_of (rows_from m k n)
+    all_added done =
+        let held_are : (money : Money) → held_in money parts ≡ sum_over (held_by money) (rows_from m k n)
         = λ money. omega (arith, going.held money, ap (sum_over (held_by money)) (rows_done m i left done)) in
         λ t. record {
           amounts = amount (adding_done (going.whole K) done t);
-          held = amount (held-are K t);
+          held = amount (held_are K t);
           fees = fee (adding_done (going.whole O) done t);
-          fees_held = fee (held-are O t);
+          fees_held = fee (held_are O t);
         }
 
 -- the shipment at a place
-module _ (m : List ℕ) (i k : ℕ) {head : List ℕ} (is-head : head ≡ head_bytes m i) {paired : Bool}
+module _ (m : List ℕ) (i k : ℕ) {head : List ℕ} (is_head : head ≡ head_bytes m i) {paired : Bool}
     (is-paired : paired ≡ is_paired (stage_in head)) where
   paired_test : is_paired (shipment_at m i k).stage ≡ paired
-  paired_test = sym (is-paired ∙ paired_is m i k is-head)
+  paired_test = sym (is-paired ∙ paired_is m i k is_head)
 
   pub none_unpaired : paired ≡ false → no_parts ≡ parts_once_paired (shipment_at m i k)
   unfolding parts_once_paired
   none_unpaired unpaired = ap (λ t. cond t no_parts no_parts) (sym (paired_test ∙ unpaired)) ∙ rw (paired_test ∙ unpaired)
 
-  module _ (sits : Sits m i k) {n : ℕ} (is-count : n ≡ order_count_in head) where
+  module _ (sits : Sits m i k) {n : ℕ} (is_count : n ≡ order_count_in head) where
     count_is : n ≡ orders_at m i
-    count_is = is-count ∙ orders_are m i k is-head
+    count_is = is_count ∙ orders_are m i k is_head
 
-    pub rows-there : k + n ≤ most_rows
-    rows-there = omega (arith, count_is, sits.room)
+    pub rows_there : k + n ≤ most_rows
+    rows_there = omega (arith, count_is, sits.room)
 
-    pub parts-paired : {parts : Parts} → paired ≡ true → parts ≡ parts_of (rows_from m k n) → parts ≡ parts_once_paired (shipment_at m i k)
+    pub parts_paired : {parts : Parts} → paired ≡ true → parts ≡ parts_of (rows_from m k n) → parts ≡ parts_once_paired (shipment_at m i k)
     unfolding parts_once_paired shipment_in
-    parts-paired together told = told ∙ rw (paired_test ∙ together) (ap (λ count. parts_of (rows_from m k count)) count_is)
+    parts_paired together told = told ∙ rw (paired_test ∙ together) (ap (λ count. parts_of (rows_from m k count)) count_is)

@@ -62,17 +62,17 @@ module _ (money : Money) (s : Shipment) (sound : shipment_sound s ≡ true) wher
       }
 
 -- as code reads a head
-module _ (m : List ℕ) (i k : ℕ) (sits : Sits m i k) {head : List ℕ} (is-head : head ≡ head_bytes m i) (money : Money) {a r : ℕ}
-    (a-is : a ≡ transfers_in money head) (r-is : r ≡ surplus_in money head) {n h : ℕ}
-    (n-is : n ≡ need_once_paired money (shipment_at m i k)) (h-is : h ≡ held money (shipment_at m i k)) where
+module _ (m : List ℕ) (i k : ℕ) (sits : Sits m i k) {head : List ℕ} (is_head : head ≡ head_bytes m i) (money : Money) {a r : ℕ}
+    (a_is : a ≡ transfers_in money head) (r_is : r ≡ surplus_in money head) {n h : ℕ}
+    (n_is : n ≡ need_once_paired money (shipment_at m i k)) (h_is : h ≡ held money (shipment_at m i k)) where
   abbrev s : Shipment
   s = shipment_at m i k
 
   accepted_known : a ≡ accepted money s
-  accepted_known = a-is ∙ accepted_is m i k is-head money
+  accepted_known = a_is ∙ accepted_is m i k is_head money
 
   returned_known : r ≡ returned money s
-  returned_known = r-is ∙ returned_is m i k is-head money
+  returned_known = r_is ∙ returned_is m i k is_head money
 
   pub division_is : divided a r n h ≡ division_of money s
-  division_is = (λ t. divided (accepted_known t) (returned_known t) (n-is t) (h-is t)) ∙ divided_is money s sits.sound
+  division_is = (λ t. divided (accepted_known t) (returned_known t) (n_is t) (h_is t)) ∙ divided_is money s sits.sound

@@ -101,7 +101,7 @@ module _ (m : List ℕ) (table : List SheetRow) (totals : Totals) where
 
   pub record Comes (plan : Plan) : Type 0 where
     pub fillable : Fillable m room (rows plan)
-    pub sheet-is : record { answer = answer_of (rows plan) plan.number; table = filled_to m (rows plan) table; totals = plan.totals }
+    pub sheet_is : record { answer = answer_of (rows plan) plan.number; table = filled_to m (rows plan) table; totals = plan.totals }
         ≡ sheet_of (read_book m) table totals
 
   none_filled : Fillable m room 0
@@ -109,36 +109,36 @@ module _ (m : List ℕ) (table : List SheetRow) (totals : Totals) where
 
   unread : sound_in m ≡ false → Comes (record { number = 10; totals = totals })
   unfolding rows_to_fill answer_of sheet_of read_book
-  unread unsound = record { fillable = none_filled; sheet-is = rw unsound }
+  unread unsound = record { fillable = none_filled; sheet_is = rw unsound }
 
   module _ (sound : sound_in m ≡ true) where
     too_many : leb (length (book_in m)) room ≡ false → Comes (record { number = 25; totals = totals })
     unfolding rows_to_fill answer_of sheet_of read_book asked
-    too_many short = record { fillable = none_filled; sheet-is = rw (sound, short) }
+    too_many short = record { fillable = none_filled; sheet_is = rw (sound, short) }
 
     module _ (fits : leb (length (book_in m)) room ≡ true) where
       too_much : within_cap (plus_all totals (map row_for (book_in m))) ≡ false → Comes (record { number = 26; totals = totals })
       unfolding rows_to_fill answer_of sheet_of read_book asked
-      too_much above = record { fillable = none_filled; sheet-is = rw (sound, fits, above) }
+      too_much above = record { fillable = none_filled; sheet_is = rw (sound, fits, above) }
 
       enough : shipments_in m ≤ room
       enough = omega (arith, book_long m, leb-true (length (book_in m)) room fits)
 
-      all-filled : Fillable m room (shipments_in m)
-      all-filled = record { within = enough; sits = λ i below. sits_here (stands_at m i sound (omega arith)) (omega arith) }
+      all_filled : Fillable m room (shipments_in m)
+      all_filled = record { within = enough; sits = λ i below. sits_here (stands_at m i sound (omega arith)) (omega arith) }
 
       long : ltb (length m) size ≡ false
       long = le-ltb (length m) size (sound_parts m sound).enough
 
-      none-refused : within_cap (plus_all totals (map row_for (book_in m))) ≡ true
+      none_refused : within_cap (plus_all totals (map row_for (book_in m))) ≡ true
           → Comes (record { number = 0; totals = plus_all totals (map row_for (book_in m)) })
       unfolding rows_to_fill answer_of sheet_of read_book asked
-      none-refused within =
+      none_refused within =
           let count = book_long m in
           let many = sym count in
           record {
-            fillable = rw long all-filled;
-            sheet-is =
+            fillable = rw long all_filled;
+            sheet_is =
                 rw (sound, fits, within, long)
                 (λ t. record {
                   answer = Filled (many t);
@@ -155,7 +155,7 @@ module _ (m : List ℕ) (table : List SheetRow) (totals : Totals) where
       either_way (leb (length (book_in m)) room)
       (λ fits.
       either_way (within_cap (plus_all totals (map row_for (book_in m))))
-      (λ within. subst Comes (sym (rw (sound, fits, within))) (none-refused sound fits within))
+      (λ within. subst Comes (sym (rw (sound, fits, within))) (none_refused sound fits within))
       (λ above. subst Comes (sym (rw (sound, fits, above))) (too_much sound fits above)))
       (λ short. subst Comes (sym (rw (sound, short))) (too_many sound short)))
       (λ unsound. subst Comes (sym (rw unsound)) (unread unsound))
@@ -172,7 +172,7 @@ module _ (m : List ℕ) (table : List SheetRow) (totals : Totals) {number n : �
   pub sheet_done : {filled : List SheetRow} {sums : Totals} {answer : Sheeting} → sums ≡ (plan_of (read_book m) (length table) totals).totals
       → filled ≡ filled_to m n table → answer ≡ answer_of n number
       → record { answer = answer; table = filled; totals = sums } ≡ sheet_of (read_book m) table totals
-  sheet_done added all-filled answered =
-      let rows_are = all-filled ∙ ap (λ k. filled_to m k table) count_is in
-      let answer-is = answered ∙ (λ t. answer_of (count_is t) (asked t)) in
-      (λ t. record { answer = answer-is t; table = rows_are t; totals = added t }) ∙ (comes m table totals).sheet-is
+  sheet_done added all_filled answered =
+      let rows_are = all_filled ∙ ap (λ k. filled_to m k table) count_is in
+      let answer_is = answered ∙ (λ t. answer_of (count_is t) (asked t)) in
+      (λ t. record { answer = answer_is t; table = rows_are t; totals = added t }) ∙ (comes m table totals).sheet_is

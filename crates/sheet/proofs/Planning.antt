@@ -39,13 +39,13 @@ module _ (m : List ℕ) (room : ℕ) (totals : Totals) where
   no_book unsound = rw unsound
 
   module _ (sound : sound_in m ≡ true) {n : ℕ} (is_all : n ≡ shipments_in m) where
-    book-read : read_book m ≡ some (book_in m)
+    book_read : read_book m ≡ some (book_in m)
     unfolding read_book
-    book-read = rw sound
+    book_read = rw sound
 
     pub no_room : room < n → record { number = 25; totals = totals } ≡ plan_of (read_book m) room totals
     unfolding plan_of
-    no_room short = rw (book-read, lt-leb (length (book_in m)) room (omega (arith, book_long m, is_all, short)))
+    no_room short = rw (book_read, lt-leb (length (book_in m)) room (omega (arith, book_long m, is_all, short)))
 
     pub as_added : {adding : Adding} → n ≤ room → adding ≡ adding_of totals (map row_for (book_in m))
         → plan_from totals adding ≡ plan_of (read_book m) room totals
@@ -53,4 +53,4 @@ module _ (m : List ℕ) (room : ℕ) (totals : Totals) where
     as_added enough told =
         ap (plan_from totals) told
         ∙ adding_plan totals (map row_for (book_in m))
-        ∙ rw (book-read, le-leb (length (book_in m)) room (omega (arith, book_long m, is_all, enough)))
+        ∙ rw (book_read, le-leb (length (book_in m)) room (omega (arith, book_long m, is_all, enough)))

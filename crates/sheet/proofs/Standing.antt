@@ -54,21 +54,21 @@ module _ {m : List ℕ} {i k left : ℕ} (stands : Stands m i k left) (more : 0 
       by (suc n) h stands = first_sits n stands
 
   pub stands_next : {n : ℕ} → n ≡ orders_at m i → Stands m (i + 1) (k + n) (left - 1)
-  stands_next {n} is-count = by left more stands
+  stands_next {n} is_count = by left more stands
     where
       by : (left : ℕ) → 0 < left → Stands m i k left → Stands m (i + 1) (k + n) (left - 1)
       by zero h stands = absurd (omega arith)
-      by (suc rest) h stands = let fewer : suc rest - 1 ≡ rest = omega arith in rw (fewer, add-one, is-count) (rest_stands rest stands)
+      by (suc rest) h stands = let fewer : suc rest - 1 ≡ rest = omega arith in rw (fewer, add-one, is_count) (rest_stands rest stands)
 
   pub row_then : {n : ℕ} → n ≡ orders_at m i
       → map row_for (shipments_from m i k left) ≡ row_for (shipment_at m i k) ∷ map row_for (shipments_from m (i + 1) (k + n) (left - 1))
   unfolding shipments_from
-  row_then {n} is-count = by left more
+  row_then {n} is_count = by left more
     where
       by : (left : ℕ) → 0 < left
           → map row_for (shipments_from m i k left) ≡ row_for (shipment_at m i k) ∷ map row_for (shipments_from m (i + 1) (k + n) (left - 1))
       by zero h = absurd (omega arith)
-      by (suc rest) h = let fewer : suc rest - 1 ≡ rest = omega arith in rw (fewer, add-one, is-count)
+      by (suc rest) h = let fewer : suc rest - 1 ≡ rest = omega arith in rw (fewer, add-one, is_count)
 
 pub rows_end : (m : List ℕ) (i k left : ℕ) → left ≤ 0 → map row_for (shipments_from m i k left) ≡ []
 unfolding shipments_from

@@ -109,22 +109,22 @@ module _ {m : List ℕ} {totals : Totals} where
       abbrev after : ℕ → List SheetRow
       after n = map row_for (shipments_from m (i + 1) (k + n) (left - 1))
 
-      whole-after : {n : ℕ} → n ≡ orders_at m i → plus_all (plus sums row) (after n) ≡ plus_all totals (map row_for (book_in m))
+      whole_after : {n : ℕ} → n ≡ orders_at m i → plus_all (plus sums row) (after n) ≡ plus_all totals (map row_for (book_in m))
       unfolding plus_all
-      whole-after is-count = rw is_row (ap (plus_all sums) (sym (row_then summing.stands more is-count)) ∙ summing.whole)
+      whole_after is_count = rw is_row (ap (plus_all sums) (sym (row_then summing.stands more is_count)) ∙ summing.whole)
 
-      pub above-here : within_cap (plus sums row) ≡ false → Above ≡ adding_of totals (map row_for (book_in m))
+      pub above_here : within_cap (plus sums row) ≡ false → Above ≡ adding_of totals (map row_for (book_in m))
       unfolding adding_of
-      above-here above = above_already (plus sums row) (after (orders_at m i)) above ∙ ap adding_to (whole-after refl)
+      above_here above = above_already (plus sums row) (after (orders_at m i)) above ∙ ap adding_to (whole_after refl)
 
       pub summing_on : {next : Totals} {n : ℕ} → within_cap (plus sums row) ≡ true → next ≡ plus sums row → n ≡ orders_at m i
           → Summing m totals next (i + 1) (k + n) (left - 1)
-      summing_on within is-next is-count =
-          rw is-next (record { stands = stands_next summing.stands more is-count; whole = whole-after is-count; within = within })
+      summing_on within is_next is_count =
+          rw is_next (record { stands = stands_next summing.stands more is_count; whole = whole_after is_count; within = within })
 
-    pub all-summed : left ≤ 0 → Added sums ≡ adding_of totals (map row_for (book_in m))
+    pub all_summed : left ≤ 0 → Added sums ≡ adding_of totals (map row_for (book_in m))
     unfolding plus_all adding_of
-    all-summed done =
+    all_summed done =
         let are : sums ≡ plus_all totals (map row_for (book_in m)) = ap (plus_all sums) (sym (rows_end m i k left done)) ∙ summing.whole in
         let here : Added sums ≡ adding_to sums = rw summing.within in
         here ∙ ap adding_to are

@@ -21,60 +21,60 @@ less_one n = omega arith
 module _ (m : List ℕ) where
   -- whether the heads from the j-th on are of others
   module _ (head : List ℕ) (j : ℕ) where
-    pub others-end : (left : ℕ) → left ≤ 0 → true ≡ others_from head m j left
+    pub others_end : (left : ℕ) → left ≤ 0 → true ≡ others_from head m j left
     unfolding others_from
-    others-end zero done = refl
-    others-end (suc n) done = absurd (omega arith)
+    others_end zero done = refl
+    others_end (suc n) done = absurd (omega arith)
 
-    module _ (other : List ℕ) (other-is : other ≡ head_bytes m j) (same : Bool)
-        (same-is : same ≡ same_ident (name_in head).ident (name_in other).ident) where
-      pub others-no : (left : ℕ) → 0 < left → same ≡ true → false ≡ others_from head m j left
+    module _ (other : List ℕ) (other_is : other ≡ head_bytes m j) (same : Bool)
+        (same_is : same ≡ same_ident (name_in head).ident (name_in other).ident) where
+      pub others_no : (left : ℕ) → 0 < left → same ≡ true → false ≡ others_from head m j left
       unfolding others_from
-      others-no zero more h = absurd (omega arith)
-      others-no (suc n) more h = rw (← other-is, ← same-is, h)
+      others_no zero more h = absurd (omega arith)
+      others_no (suc n) more h = rw (← other_is, ← same_is, h)
 
-      pub others-on : (left : ℕ) → 0 < left → same ≡ false → others_from head m (j + 1) (left - 1) ≡ others_from head m j left
+      pub others_on : (left : ℕ) → 0 < left → same ≡ false → others_from head m (j + 1) (left - 1) ≡ others_from head m j left
       unfolding others_from
-      others-on zero more h = absurd (omega arith)
-      others-on (suc n) more h = rw (less_one n, add-one, ← other-is, ← same-is, h)
+      others_on zero more h = absurd (omega arith)
+      others_on (suc n) more h = rw (less_one n, add-one, ← other_is, ← same_is, h)
 
   -- whether the heads from the i-th on are apart
   module _ (i : ℕ) where
-    pub apart-end : (left : ℕ) → left ≤ 0 → true ≡ apart_from m i left
+    pub apart_end : (left : ℕ) → left ≤ 0 → true ≡ apart_from m i left
     unfolding apart_from
-    apart-end zero done = refl
-    apart-end (suc n) done = absurd (omega arith)
+    apart_end zero done = refl
+    apart_end (suc n) done = absurd (omega arith)
 
     module _ (others : Bool) where
-      pub apart-no : (left : ℕ) → 0 < left → others ≡ others_from (head_bytes m i) m (i + 1) (left - 1) → others ≡ false → false ≡ apart_from m i left
+      pub apart_no : (left : ℕ) → 0 < left → others ≡ others_from (head_bytes m i) m (i + 1) (left - 1) → others ≡ false → false ≡ apart_from m i left
       unfolding apart_from
-      apart-no zero more told h = absurd (omega arith)
-      apart-no (suc n) more told h = let here = rw (less_one n, add-one) at told in rw (← here, h)
+      apart_no zero more told h = absurd (omega arith)
+      apart_no (suc n) more told h = let here = rw (less_one n, add-one) at told in rw (← here, h)
 
-      pub apart-on : (left : ℕ) → 0 < left → others ≡ others_from (head_bytes m i) m (i + 1) (left - 1) → others ≡ true
+      pub apart_on : (left : ℕ) → 0 < left → others ≡ others_from (head_bytes m i) m (i + 1) (left - 1) → others ≡ true
           → apart_from m (i + 1) (left - 1) ≡ apart_from m i left
       unfolding apart_from
-      apart-on zero more told h = absurd (omega arith)
-      apart-on (suc n) more told h = let here = rw (less_one n, add-one) at told in rw (less_one n, add-one, ← here, h)
+      apart_on zero more told h = absurd (omega arith)
+      apart_on (suc n) more told h = let here = rw (less_one n, add-one) at told in rw (less_one n, add-one, ← here, h)
 
   -- whether the shipments from the i-th on are sound
   module _ (i k : ℕ) where
-    pub sound-end : (left : ℕ) → left ≤ 0 → true ≡ sound_from m i k left
+    pub sound_end : (left : ℕ) → left ≤ 0 → true ≡ sound_from m i k left
     unfolding sound_from
-    sound-end zero done = refl
-    sound-end (suc n) done = absurd (omega arith)
+    sound_end zero done = refl
+    sound_end (suc n) done = absurd (omega arith)
 
-    pub sound-no : (left : ℕ) → 0 < left → sound_at m i k ≡ false → false ≡ sound_from m i k left
+    pub sound_no : (left : ℕ) → 0 < left → sound_at m i k ≡ false → false ≡ sound_from m i k left
     unfolding sound_from
-    sound-no zero more h = absurd (omega arith)
-    sound-no (suc n) more h = rw h
+    sound_no zero more h = absurd (omega arith)
+    sound_no (suc n) more h = rw h
 
-    sound-room : sound_at m i k ≡ true → k + orders_at m i ≤ most_rows
+    sound_room : sound_at m i k ≡ true → k + orders_at m i ≤ most_rows
     unfolding sound_at
-    sound-room h = leb-true (k + orders_at m i) most_rows (search halves)
+    sound_room h = leb-true (k + orders_at m i) most_rows (search halves)
 
-    pub sound-on : (head : List ℕ) (orders left : ℕ) → 0 < left → sound_at m i k ≡ true → head ≡ head_bytes m i → orders ≡ order_count_in head
+    pub sound_on : (head : List ℕ) (orders left : ℕ) → 0 < left → sound_at m i k ≡ true → head ≡ head_bytes m i → orders ≡ order_count_in head
         → (k + orders ≤ most_rows) × (sound_from m (i + 1) (k + orders) (left - 1) ≡ sound_from m i k left)
     unfolding sound_from
-    sound-on head orders zero more h head-is orders-is = absurd (omega arith)
-    sound-on head orders (suc n) more h head-is orders-is = rw (orders-is, head-is) (sound-room h, rw (less_one n, add-one, h))
+    sound_on head orders zero more h head_is orders_is = absurd (omega arith)
+    sound_on head orders (suc n) more h head_is orders_is = rw (orders_is, head_is) (sound_room h, rw (less_one n, add-one, h))

@@ -52,11 +52,11 @@ judged_alike head n terms rows tally found = by tally.charges.charged refl
     never one none = second_no (leb 1 n) _ (first_no_lem (rows_fit head one) _ (rw none refl))
 
     by : (t : Bool) → tally.charges.charged ≡ t → judged head n tally ≡ judged head n (tally_of terms rows)
-    by true each-is =
+    by true each_is =
         ap (judged head n)
         (λ i. record {
           classes = found.classes_are i;
-          charges = record { amounts = charges.amounts_are i; fees = charges.fees_are each-is i; charged = charges.charged_is i };
+          charges = record { amounts = charges.amounts_are i; fees = charges.fees_are each_is i; charged = charges.charged_is i };
         })
     by false none = never tally none ∙ sym (never (tally_of terms rows) (sym charges.charged_is ∙ none))
 
@@ -72,37 +72,37 @@ sums_right true false c h = absurd (false≢true h)
 sums_right false b c h = absurd (false≢true h)
 
 -- a shipment where it lies
-module _ (m head : List ℕ) (i k : ℕ) (head-is : head ≡ head_bytes m i) where
+module _ (m head : List ℕ) (i k : ℕ) (head_is : head ≡ head_bytes m i) where
   pub flags_wrong : flags_in_form head ≡ false → false ≡ sound_at m i k
   unfolding sound_at
-  flags_wrong h = rw (← head-is, h)
+  flags_wrong h = rw (← head_is, h)
 
-  module _ (n : ℕ) (n-is : n ≡ order_count_in head) (flags : flags_in_form head ≡ true) where
+  module _ (n : ℕ) (n_is : n ≡ order_count_in head) (flags : flags_in_form head ≡ true) where
     pub no_room : most_rows < k + n → false ≡ sound_at m i k
     unfolding sound_at
-    no_room h = rw (← head-is, flags, ← n-is, lt-leb (k + n) most_rows h)
+    no_room h = rw (← head_is, flags, ← n_is, lt-leb (k + n) most_rows h)
 
     module _ (room : k + n ≤ most_rows) where
-      judged-there : sound_at m i k ≡ (name_in_form (name_in head) && (terms_fit (terms_in head) && judged head n (tally_of (terms_in head) (rows_from m k n))))
+      judged_there : sound_at m i k ≡ (name_in_form (name_in head) && (terms_fit (terms_in head) && judged head n (tally_of (terms_in head) (rows_from m k n))))
       unfolding sound_at
-      judged-there =
+      judged_there =
           let many = rows_many m k n in
-          rw (← head-is, flags, ← n-is, le-leb (k + n) most_rows room, judged_is_sound head (rows_from m k n), many)
+          rw (← head_is, flags, ← n_is, le-leb (k + n) most_rows room, judged_is_sound head (rows_from m k n), many)
 
-      pub name-wrong : name_in_form (name_in head) ≡ false → false ≡ sound_at m i k
-      name-wrong h = rw (judged-there, h)
+      pub name_wrong : name_in_form (name_in head) ≡ false → false ≡ sound_at m i k
+      name_wrong h = rw (judged_there, h)
 
       module _ (named : name_in_form (name_in head) ≡ true) {terms : Terms} (terms_are : terms ≡ terms_in head) where
-        pub terms-wrong : terms_fit terms ≡ false → false ≡ sound_at m i k
-        terms-wrong unfit = sym (judged-there ∙ second_no (name_in_form (name_in head)) _ (first_no_lem (terms_fit (terms_in head)) _ (ap terms_fit (sym terms_are) ∙ unfit)))
+        pub terms_wrong : terms_fit terms ≡ false → false ≡ sound_at m i k
+        terms_wrong unfit = sym (judged_there ∙ second_no (name_in_form (name_in head)) _ (first_no_lem (terms_fit (terms_in head)) _ (ap terms_fit (sym terms_are) ∙ unfit)))
 
-        pub sound-as-judged : (tally : Tally) (r : Bool) → terms_fit terms ≡ true → Tallied terms (rows_from m k n) tally → r ≡ judged head n tally
+        pub sound_as_judged : (tally : Tally) (r : Bool) → terms_fit terms ≡ true → Tallied terms (rows_from m k n) tally → r ≡ judged head n tally
             → r ≡ sound_at m i k
-        sound-as-judged tally r fit found told =
+        sound_as_judged tally r fit found told =
             let alike = judged_alike head n terms (rows_from m k n) tally found in
             and-true _ _ _ named
             (and-true _ _ _ (ap terms_fit (sym terms_are) ∙ fit) (told ∙ alike ∙ ap (λ (one : Terms). judged head n (tally_of one (rows_from m k n))) terms_are))
-            ∙ sym judged-there
+            ∙ sym judged_there
 
 module _ (head : List ℕ) (money : Money) (need : ℕ) where
   abbrev accepted : ℕ

@@ -26,7 +26,7 @@ use Rattle.memory.specs.Layout.{row_bytes}
 use Rattle.memory.specs.Rows.{row_of}
 use Rattle.memory.specs.Read.{rows_from}
 use Rattle.memory.specs.Inner.Classes.{class_of}
-use Rattle.memory.proofs.Columns.{rows_on, rows_done, Adding, adding_begun, adding_on, adding_done, adding-within}
+use Rattle.memory.proofs.Columns.{rows_on, rows_done, Adding, adding_begun, adding_on, adding_done, adding_within}
 use Rattle.sound.specs.declared.charges.Charges.{Charges}
 use Rattle.sound.specs.declared.charges.Products.{Products}
 use Rattle.sound.specs.Inner.Charges.{amount_fits, fee_fits, remainder_fits, is_flat, has_none, difference_of, is_even, Charged, Multiplied, WithProduct, SmallProducts}
@@ -52,9 +52,9 @@ module _ {test : Row → Bool} {m : List ℕ} {k n : ℕ} where
   asking_begun = record { place = refl; told = refl }
 
   module _ {fit : Bool} {i left : ℕ} (going : Asking test m k n fit i left) where
-    pub asking-on : {answer : Bool} → 0 < left → answer ≡ test (row_of (row_bytes m i)) → Asking test m k n (fit && answer) (i + 1) (left - 1)
+    pub asking_on : {answer : Bool} → 0 < left → answer ≡ test (row_of (row_bytes m i)) → Asking test m k n (fit && answer) (i + 1) (left - 1)
     unfolding each
-    asking-on {answer} more is = record {
+    asking_on {answer} more is = record {
       place = omega (arith, going.place);
       told = ap (λ t. (fit && t) && each test (rows_from m (i + 1) (left - 1))) is
           ∙ and_assoc fit (test (row_of (row_bytes m i))) (each test (rows_from m (i + 1) (left - 1)))
@@ -62,25 +62,25 @@ module _ {test : Row → Bool} {m : List ℕ} {k n : ℕ} where
           ∙ going.told;
     }
 
-    pub asking-done : left ≤ 0 → fit ≡ each test (rows_from m k n)
+    pub asking_done : left ≤ 0 → fit ≡ each test (rows_from m k n)
     unfolding each
-    asking-done done = sym (and_yes fit) ∙ ap (λ rows. fit && each test rows) (sym (rows_done m i left done)) ∙ going.told
+    asking_done done = sym (and_yes fit) ∙ ap (λ rows. fit && each test rows) (sym (rows_done m i left done)) ∙ going.told
 
 module _ {m : List ℕ} {k n : ℕ} where
   pub joining_begun : Joining m k n 0 k n
   joining_begun = record { place = refl; classes_are = refl }
 
   module _ {classes i left : ℕ} (going : Joining m k n classes i left) where
-    pub joining-on : {class : ℕ} → 0 < left → class ≡ class_of (row_of (row_bytes m i)).state → Joining m k n (bit_or classes class) (i + 1) (left - 1)
-    joining-on more is = record {
+    pub joining_on : {class : ℕ} → 0 < left → class ≡ class_of (row_of (row_bytes m i)).state → Joining m k n (bit_or classes class) (i + 1) (left - 1)
+    joining_on more is = record {
       place = omega (arith, going.place);
       classes_are = ap (λ c. joined (bit_or classes c) (rows_from m (i + 1) (left - 1))) is
           ∙ ap (joined classes) (sym (rows_on m i left more))
           ∙ going.classes_are;
     }
 
-    pub joining-done : left ≤ 0 → classes ≡ joined 0 (rows_from m k n)
-    joining-done done = ap (joined classes) (sym (rows_done m i left done)) ∙ going.classes_are
+    pub joining_done : left ≤ 0 → classes ≡ joined 0 (rows_from m k n)
+    joining_done done = ap (joined classes) (sym (rows_done m i left done)) ∙ going.classes_are
 
 -- two tests of each, and a test that is another
 four_ways : (a b s t : Bool) → ((a && b) && (s && t)) ≡ ((a && s) && (b && t))
@@ -129,8 +129,8 @@ module _ (flat : Fee) (within : WithinOrder flat.0) (rows : List Row) where
       both_yes (is_flat flat.0 row) (has_none row) (eq-eqb row.fee.0 flat.0 (omega (arith, facts.flat, facts.equal)))
       (eq-eqb row.remainder 0 (omega (arith, facts.equal))))
       (λ h.
-      let is-fee = eqb-true row.fee.0 flat.0 (and_left (is_flat flat.0 row) (has_none row) h) in
-      let is-remainder = eqb-true row.remainder 0 (and_right (is_flat flat.0 row) (has_none row) h) in
+      let is_fee = eqb-true row.fee.0 flat.0 (and_left (is_flat flat.0 row) (has_none row) h) in
+      let is_remainder = eqb-true row.remainder 0 (and_right (is_flat flat.0 row) (has_none row) h) in
       both_yes (fee_fits row) division (le-leb row.fee.0 order_cap (omega arith))
       (divides_by without row.amount.0 row.fee.0 row.remainder (record { flat = omega arith; below = omega arith; equal = omega arith })))
 
@@ -170,11 +170,11 @@ module _ {terms : Terms} {m : List ℕ} {k n : ℕ} where
   multiplying_begun = record { amounts = adding_begun; fees = adding_begun; even = asking_begun }
 
   module _ {products : Products} {i left : ℕ} (going : Multiplying terms m k n products i left) where
-    pub products-small : k + n ≤ most_rows → 0 < left → SmallProducts products
-    products-small room more = record { amounts = omega (arith, going.amounts.low); fees = omega (arith, going.fees.low) }
+    pub products_small : k + n ≤ most_rows → 0 < left → SmallProducts products
+    products_small room more = record { amounts = omega (arith, going.amounts.low); fees = omega (arith, going.fees.low) }
 
-    pub multiplying-on : {next : Products} → 0 < left → WithProduct terms products (row_of (row_bytes m i)) next → Multiplying terms m k n next (i + 1) (left - 1)
-    multiplying-on {next} more one =
+    pub multiplying_on : {next : Products} → 0 < left → WithProduct terms products (row_of (row_bytes m i)) next → Multiplying terms m k n next (i + 1) (left - 1)
+    multiplying_on {next} more one =
         let row = row_of (row_bytes m i) in
         record {
           amounts = adding_on going.amounts more refl one.amount_low one.amounts_are;
@@ -182,16 +182,16 @@ module _ {terms : Terms} {m : List ℕ} {k n : ℕ} where
           even =
               subst (λ t. Asking (is_even terms) m k n t (i + 1) (left - 1))
               (sym (ap (λ (d : ℕ). eqb d 0) one.differences_are ∙ none_joined products.differences (difference_of terms row)))
-              (asking-on going.even more refl);
+              (asking_on going.even more refl);
         }
 
     pub multiplied : left ≤ 0 → n ≤ most_rows → Multiplied terms (rows_from m k n) products
     multiplied done few = record {
       amounts_are = ap amount (adding_done going.amounts done);
       fees_are = ap fee (adding_done going.fees done);
-      told = asking-done going.even done;
-      amounts_low = adding-within going.amounts few;
-      fees_low = adding-within going.fees few;
+      told = asking_done going.even done;
+      amounts_low = adding_within going.amounts few;
+      fees_low = adding_within going.fees few;
     }
 
 -- what is found without a rate, and with one
@@ -209,8 +209,8 @@ module _ (m : List ℕ) (k n : ℕ) where
   flat_charged flat within few {charges} amounts_are amounts_low fees_are charged_is = record {
     amounts_are = amounts_are;
     charged_is = charged_is ∙ sym (charged_flat flat within rows);
-    fees_are = λ each-is.
-        let all = and_right (each amount_fits rows) _ (sym charged_is ∙ each-is) in
+    fees_are = λ each_is.
+        let all = and_right (each amount_fits rows) _ (sym charged_is ∙ each_is) in
         let sum = flat_sum flat.0 rows (and_left (each (is_flat flat.0) rows) (each has_none rows) all) in
         fees_are ∙ ap fee (sym (sum ∙ ap (λ (many : ℕ). many * flat.0) (rows_many m k n)));
     amounts_low = amounts_low;
@@ -220,10 +220,10 @@ module _ (m : List ℕ) (k n : ℕ) where
   pub rated_charged : (terms : Terms) {products : Products} {in_range : Bool} → Multiplied terms rows products
       → in_range ≡ (each amount_fits rows && (each fee_fits rows && each remainder_fits rows))
       → Charged terms rows (record { amounts = products.amounts; fees = products.fees; charged = in_range && eqb products.differences 0 })
-  rated_charged terms all in-range-is = record {
+  rated_charged terms all in_range_is = record {
     amounts_are = all.amounts_are;
-    charged_is = (λ i. in-range-is i && all.told i) ∙ sym (charged_apart terms rows);
-    fees_are = λ each-is. all.fees_are;
+    charged_is = (λ i. in_range_is i && all.told i) ∙ sym (charged_apart terms rows);
+    fees_are = λ each_is. all.fees_are;
     amounts_low = all.amounts_low;
     fees_low = all.fees_low;
   }

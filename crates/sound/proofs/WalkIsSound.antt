@@ -101,4 +101,4 @@ walk_is_sound m enough = both_ways _ _ (book_walked m) (walked_book m enough)
 
 pub as_walked : (m : List ℕ) (n : ℕ) (r : Bool) → size ≤ length m → n ≡ shipments_in m
     → r ≡ (leb n most_shipments && (sound_from m 0 0 n && apart_from m 0 n)) → r ≡ sound_in m
-as_walked m n r enough n-is told = rw (walk_is_sound m enough, ← n-is) told
+as_walked m n r enough n_is told = rw (walk_is_sound m enough, ← n_is) told

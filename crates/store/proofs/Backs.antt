@@ -84,53 +84,53 @@ module _ (bytes : List ℕ) (short : length bytes < 256 ^ 4) where
     head_there : head_from bytes at ≡ head_of s
     head_there = ap (λ (l : List ℕ). take head_size l) parted ∙ take_at (head_of s) (orders_of s.rows ++ bodies_of more) head_size (head_long s room)
 
-    count-there : count_from bytes at ≡ length s.rows
-    count-there = ap order_count_in head_there ∙ orders_back s room
+    count_there : count_from bytes at ≡ length s.rows
+    count_there = ap order_count_in head_there ∙ orders_back s room
 
-    body-there : body_from bytes at ≡ length (body_of s)
-    body-there =
+    body_there : body_from bytes at ≡ length (body_of s)
+    body_there =
         let a = length-append (head_of s) (orders_of s.rows) in
         let b = head_long s room in
         let c = orders_long s.rows in
-        let d = count-there in
+        let d = count_there in
         omega arith
 
-    rows-there : rows_sound s.agreed.terms s.stage s.rows ≡ true → rows_from_bytes bytes (at + head_size) (count_from bytes at) ≡ s.rows
-    rows-there h =
-        ap (λ (c : ℕ). rows_from_bytes bytes (at + head_size) c) count-there
+    rows_there : rows_sound s.agreed.terms s.stage s.rows ≡ true → rows_from_bytes bytes (at + head_size) (count_from bytes at) ≡ s.rows
+    rows_there h =
+        ap (λ (c : ℕ). rows_from_bytes bytes (at + head_size) c) count_there
         ∙ rows_back bytes s.agreed.terms s.stage s.rows (at + head_size) (bodies_of more) h
         (behind_field bytes at (head_of s) (orders_of s.rows ++ bodies_of more) head_size (head_long s room) parted)
 
-    body-behind : drop (at + length (body_of s)) bytes ≡ bodies_of more
+    body_behind : drop (at + length (body_of s)) bytes ≡ bodies_of more
     unfolding bodies_of
-    body-behind = behind_field bytes at (body_of s) (bodies_of more) (length (body_of s)) refl is
+    body_behind = behind_field bytes at (body_of s) (bodies_of more) (length (body_of s)) refl is
 
   -- one entry
   module _ (s : Shipment) (more : Book) (i at : ℕ) (tail : List ℕ) (table : drop (2 + 8 * i) bytes ≡ contents_from at (s ∷ more) ++ tail)
-      (start_small : at < 256 ^ 4) (length-small : length (body_of s) < 256 ^ 4) where
+      (start_small : at < 256 ^ 4) (length_small : length (body_of s) < 256 ^ 4) where
     abbrev others : List ℕ
     others = contents_from (at + length (body_of s)) more ++ tail
 
-    entry-parted : drop (2 + 8 * i) bytes ≡ bytes_of 4 at ++ (bytes_of 4 (length (body_of s)) ++ others)
+    entry_parted : drop (2 + 8 * i) bytes ≡ bytes_of 4 at ++ (bytes_of 4 (length (body_of s)) ++ others)
     unfolding contents_from
-    entry-parted =
+    entry_parted =
         table
         ∙ append_assoc (bytes_of 4 at ++ bytes_of 4 (length (body_of s))) (contents_from (at + length (body_of s)) more) tail
         ∙ append_assoc (bytes_of 4 at) (bytes_of 4 (length (body_of s))) others
 
-    second-parted : drop (2 + 8 * i + 4) bytes ≡ bytes_of 4 (length (body_of s)) ++ others
-    second-parted = behind_field bytes (2 + 8 * i) (bytes_of 4 at) (bytes_of 4 (length (body_of s)) ++ others) 4 refl entry-parted
+    second_parted : drop (2 + 8 * i + 4) bytes ≡ bytes_of 4 (length (body_of s)) ++ others
+    second_parted = behind_field bytes (2 + 8 * i) (bytes_of 4 at) (bytes_of 4 (length (body_of s)) ++ others) 4 refl entry_parted
 
-    entry-there : is_entry bytes i at (length (body_of s)) ≡ true
-    entry-there =
+    entry_there : is_entry bytes i at (length (body_of s)) ≡ true
+    entry_there =
         both_yes (eqb (number_at 4 bytes (2 + 8 * i)) at) (eqb (number_at 4 bytes (2 + 8 * i + 4)) (length (body_of s)))
-        (eq-eqb (number_at 4 bytes (2 + 8 * i)) at (number_there bytes (2 + 8 * i) 4 at (bytes_of 4 (length (body_of s)) ++ others) start_small entry-parted))
-        (eq-eqb (number_at 4 bytes (2 + 8 * i + 4)) (length (body_of s)) (number_there bytes (2 + 8 * i + 4) 4 (length (body_of s)) others length-small second-parted))
+        (eq-eqb (number_at 4 bytes (2 + 8 * i)) at (number_there bytes (2 + 8 * i) 4 at (bytes_of 4 (length (body_of s)) ++ others) start_small entry_parted))
+        (eq-eqb (number_at 4 bytes (2 + 8 * i + 4)) (length (body_of s)) (number_there bytes (2 + 8 * i + 4) 4 (length (body_of s)) others length_small second_parted))
 
-    table-behind : drop (2 + 8 * suc i) bytes ≡ others
-    table-behind =
+    table_behind : drop (2 + 8 * suc i) bytes ≡ others
+    table_behind =
         let next : 2 + 8 * suc i ≡ 2 + 8 * i + 4 + 4 = omega arith in
-        ap (λ (j : ℕ). drop j bytes) next ∙ behind_field bytes (2 + 8 * i + 4) (bytes_of 4 (length (body_of s))) others 4 refl second-parted
+        ap (λ (j : ℕ). drop j bytes) next ∙ behind_field bytes (2 + 8 * i + 4) (bytes_of 4 (length (body_of s))) others 4 refl second_parted
 
   bodies_back : (rest : Book) (i k at : ℕ) (tail : List ℕ) → shipments_sound rest ≡ true → idents_held rest ≡ true → k + rows_in rest ≤ most_rows
       → at + length (bodies_of rest) ≡ length bytes → drop at bytes ≡ bodies_of rest → drop (2 + 8 * i) bytes ≡ contents_from at rest ++ tail → Back bytes i k at rest
@@ -143,17 +143,17 @@ module _ (bytes : List ℕ) (short : length bytes < 256 ^ 4) where
       let parts = in_order s sounds.first in
       let all = length-append (body_of s) (bodies_of more) in
       let head_size_lem = head_long s room in
-      let with-orders = length-append (head_of s) (orders_of s.rows) in
-      let count = count-there s more at room is in
-      let body = body-there s more at room is in
+      let with_orders = length-append (head_of s) (orders_of s.rows) in
+      let count = count_there s more at room is in
+      let body = body_there s more at room is in
       let head = head_there s more at room is in
       let next = at + length (body_of s) in
       let rest =
       bodies_back more (suc i) (k + length s.rows) next tail sounds.rest (and_right (eqb (length s.agreed.name.ident.bytes) 17) _ held) (omega arith) (omega arith)
-      (body-behind s more at room is) (table-behind s more i at tail table (omega arith) (omega arith)) in
-      let entry = entry-there s more i at tail table (omega arith) (omega arith) in
+      (body_behind s more at room is) (table_behind s more i at tail table (omega arith) (omega arith)) in
+      let entry = entry_there s more i at tail table (omega arith) (omega arith) in
       record {
-        book = (λ j. shipment_in (head j) (rows-there s more at room is parts.rows_sound j) ∷ book_from bytes (at + body j) (length more)) ∙ (λ j. head_back s room j ∷ rest.book j);
+        book = (λ j. shipment_in (head j) (rows_there s more at room is parts.rows_sound j) ∷ book_from bytes (at + body j) (length more)) ∙ (λ j. head_back s room j ∷ rest.book j);
         whole =
             both_yes (leb (at + head_size) (length bytes)) _ (le-leb (at + head_size) (length bytes) (omega arith))
             (both_yes (leb (k + count_from bytes at) most_rows) _ (le-leb (k + count_from bytes at) most_rows (omega arith))
@@ -214,12 +214,12 @@ unstored book is =
     let few = parts.few in
     let fit = parts.rows_fit in
     let long = stored_long book is in
-    let table-size = contents_long book at in
-    let bodies-size = bodies_long book parts.shipments is.is_held fit in
+    let table_size = contents_long book at in
+    let bodies_size = bodies_long book parts.shipments is.is_held fit in
     let here : 2 + 8 * 0 ≡ 2 = refl in
     let back =
     bodies_back bytes (omega arith) book 0 0 at bodies parts.shipments is.is_held (omega arith) (omega arith)
-    (behind_field bytes 2 contents bodies (8 * n) table-size refl) refl in
+    (behind_field bytes 2 contents bodies (8 * n) table_size refl) refl in
     record {
       whole =
           both_yes (leb 2 (length bytes)) _ (le-leb 2 (length bytes) (omega arith))
@@ -231,7 +231,7 @@ unstored book is =
     }
 
 pub stored_apart : StoredApart
-stored_apart a b is-a is_b same = sym (unstored a is-a).same ∙ ap book_of same ∙ (unstored b is_b).same
+stored_apart a b is_a is_b same = sym (unstored a is_a).same ∙ ap book_of same ∙ (unstored b is_b).same
 
 pub stored_fits : StoredFits
 stored_fits book is =

@@ -13,7 +13,7 @@ use Rattle.model.specs.Shipment.{Shipment}
 use Rattle.model.specs.Book.{Book, new_shipment}
 use Rattle.model.specs.Demand.{book_at}
 use Rattle.model.specs.Zs1.{calls, zs1}
-use Rattle.model.specs.Rated.{calls as ratedCalls}
+use Rattle.model.specs.Rated.{calls as rated_calls}
 use Rattle.model.specs.declared.State.TheVariants.{Open}
 use Rattle.model.proofs.AboutZs1.{stepped}
 use Rattle.write.specs.Written.{Wrote, leaving, written_after}
@@ -61,7 +61,7 @@ unfolding bytes_in zs1_named zs1_alone flat_fee zs1_stored
 taken_in_lem = refl
 
 -- On a rate of 125: fees 475, 412 and 381, remainders 0, 5,000 and 8,750.
-rated_in : bytes_in (book_at ratedCalls 1)
+rated_in : bytes_in (book_at rated_calls 1)
     ≡ zs1_alone
     ++ 0x00 ∷ 0x00 ∷ 0x03 ∷ 0x00 ∷ replicate 32 0
     ++ 0x7D ∷ 0x00 ∷ 0x10 ∷ 0x27 ∷ 0x00 ∷ 0x00 ∷ 0x00 ∷ 0xDB ∷ 0x01 ∷ 0x00 ∷ 0x00 ∷ 0x00 ∷ 0x00

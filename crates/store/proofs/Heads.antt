@@ -198,11 +198,11 @@ module _ (s : Shipment) (room : HasRoom s) where
       in_form Closed false = refl
 
 -- a head as it lies in memory, of bytes and in form
-module _ (head : List ℕ) (is-head : IsHead head) (bytes : (j : ℕ) → get_or head j 0 < 256) (flags : flags_in_form head ≡ true) where
+module _ (head : List ℕ) (is_head : IsHead head) (bytes : (j : ℕ) → get_or head j 0 < 256) (flags : flags_in_form head ≡ true) where
   pub head_forth : (rows : List Row) → order_count_in head ≡ length rows → head_of (shipment_in head rows) ≡ head
   unfolding head_of shipment_in
   head_forth rows count =
-      let end : [] ≡ drop head_size head = sym (ap (λ (j : ℕ). drop j head) (sym is-head) ∙ drop-length head) in
+      let end : [] ≡ drop head_size head = sym (ap (λ (j : ℕ). drop j head) (sym is_head) ∙ drop-length head) in
       let f64 = number_then head bytes 2 64 (omega arith) end in
       let f56 = number_then head bytes 8 56 (omega arith) f64 in
       let f48 = number_then head bytes 8 48 (omega arith) f56 in

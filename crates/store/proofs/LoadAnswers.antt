@@ -25,7 +25,7 @@ use Rattle.store.specs.Inner.Walk.{is_whole, book_of, flags_of}
 use Rattle.store.specs.Inner.Unpack.{has_contents, BodiesUnpacked, Unpacked}
 use Rattle.store.proofs.Walks.{whole_is_stored}
 use Rattle.store.proofs.Backs.{unstored, stored_apart}
-use Rattle.store.proofs.SoundMemory.{sound_storable, flags_in_form_lem, book_sound, read-before}
+use Rattle.store.proofs.SoundMemory.{sound_storable, flags_in_form_lem, book_sound, read_before}
 use Rattle.store.proofs.Unpacking.{four_no, four_yes}
 
 -- the contents table, and then the bodies
@@ -66,8 +66,8 @@ module _ {bytes : List ℕ} where
   stored_whole book is = ap is_whole (sym is.is_stored) ∙ (unstored book is.storable).whole
 
   module _ {whole : Bool} {m m' : List ℕ} (unpacked : Unpacked bytes whole m m') (all : whole ≡ true) where
-    pub unpacked-stores : ((j : ℕ) → get_or bytes j 0 < 256) → sound_in m' ≡ true → Stores bytes (book_in m')
-    unpacked-stores small is_sound =
+    pub unpacked_stores : ((j : ℕ) → get_or bytes j 0 < 256) → sound_in m' ≡ true → Stores bytes (book_in m')
+    unpacked_stores small is_sound =
         let same = unpacked.book all in
         record {
           storable = sound_storable m' is_sound;
@@ -75,9 +75,9 @@ module _ {bytes : List ℕ} where
               ∙ whole_is_stored bytes small (sym unpacked.answer ∙ all) (sym (unpacked.flags all) ∙ flags_in_form_lem m' is_sound) (ap sound (sym same) ∙ book_sound m' is_sound);
         }
 
-    pub stored-sound : (book : Book) → Stores bytes book → size ≤ length m' → sound_in m' ≡ true
+    pub stored_sound : (book : Book) → Stores bytes book → size ≤ length m' → sound_in m' ≡ true
     unfolding sound_in
-    stored-sound book is enough =
+    stored_sound book is enough =
         let back = unstored book is.storable in
         let flags = unpacked.flags all ∙ ap flags_of (sym is.is_stored) ∙ back.flags in
         let same = unpacked.book all ∙ ap book_of (sym is.is_stored) ∙ back.same in
@@ -100,14 +100,14 @@ module _ (bytes lent : List ℕ) where
   refuses_broken unpacked broken = refuses_others (λ book is. false≢true (sym broken ∙ unpacked.answer ∙ stored_whole book is))
 
   module _ {whole : Bool} {m m' : List ℕ} (unpacked : Unpacked bytes whole m m') (all : whole ≡ true) where
-    pub refuses-unsound : size ≤ length m' → sound_in m' ≡ false → Loads lent bytes (Refused 32) lent
-    refuses-unsound enough unsound = refuses_others (λ book is. false≢true (sym unsound ∙ stored-sound unpacked all book is enough))
+    pub refuses_unsound : size ≤ length m' → sound_in m' ≡ false → Loads lent bytes (Refused 32) lent
+    refuses_unsound enough unsound = refuses_others (λ book is. false≢true (sym unsound ∙ stored_sound unpacked all book is enough))
 
-    pub refuses-short : ((j : ℕ) → get_or bytes j 0 < 256) → sound_in m' ≡ true → length lent < size → Loads lent bytes (Refused 30) lent
-    refuses-short small is_sound short = record {
+    pub refuses_short : ((j : ℕ) → get_or bytes j 0 < 256) → sound_in m' ≡ true → length lent < size → Loads lent bytes (Refused 30) lent
+    refuses_short small is_sound short = record {
       loaded = λ book is room. absurd (omega arith);
       too_short = λ book is less. refl;
-      not_stored = λ none. absurd (none (book_in m') (unpacked-stores unpacked all small is_sound));
+      not_stored = λ none. absurd (none (book_in m') (unpacked_stores unpacked all small is_sound));
       refused = λ number same. refl;
       behind = λ j from. refl;
       as_long = refl;
@@ -115,7 +115,7 @@ module _ (bytes lent : List ℕ) where
 
     pub loads : {after : List ℕ} → ((j : ℕ) → get_or bytes j 0 < 256) → sound_in m' ≡ true → length m' ≡ size → size ≤ length lent → after ≡ put_at 0 m' lent → Loads lent bytes Loaded after
     loads {after} small is_sound long room put =
-        let holds = ap read_book (put ∙ put_first m' lent) ∙ read-before m' is_sound (drop (length m') lent) in
+        let holds = ap read_book (put ∙ put_first m' lent) ∙ read_before m' is_sound (drop (length m') lent) in
         record {
           loaded = λ book is enough. (refl, holds ∙ ap some (same book is));
           too_short = λ book is short. absurd (omega arith);
@@ -126,7 +126,7 @@ module _ (bytes lent : List ℕ) where
         }
       where
         stores : Stores bytes (book_in m')
-        stores = unpacked-stores unpacked all small is_sound
+        stores = unpacked_stores unpacked all small is_sound
 
         same : (book : Book) → Stores bytes book → book_in m' ≡ book
         same book is = stored_apart (book_in m') book stores.storable is.storable (stores.is_stored ∙ sym is.is_stored)

@@ -58,21 +58,21 @@ module _ (order : List ℕ) (k : ℕ) (m : List ℕ) (there : k < most_rows) (en
   pub order_stored : number_at 4 order 0 < 2 ^ 32 → number_at 4 order 5 < 2 ^ 32 → number_at 2 order 9 < 2 ^ 16
       → OrderStored order k m (with_code_at with_remainder k (code_in order))
   unfolding row_of
-  order_stored amount_fits_holds fee_fits_holds remainder-fits =
+  order_stored amount_fits_holds fee_fits_holds remainder_fits =
       let first = stored_is_read 4 m (amount_at k) (number_at 4 order 0) in
       let second = stored_is_read 4 with_amount (fee_at k) (number_at 4 order 5) in
       let third = stored_is_read 2 with_fee (remainder_at k) (number_at 2 order 9) in
       let code = code_stored with_remainder k (code_in order) in
       let long : size ≤ length with_remainder = omega (arith, first.as_long, second.as_long, third.as_long) in
-      let amount-there =
+      let amount_there =
       number_alike 4 with_remainder with_amount (amount_at k) (amount_at k)
       (λ j within. third.before (amount_at k + j) (omega arith) ∙ second.before (amount_at k + j) (omega arith))
       ∙ first.back (omega arith) amount_fits_holds in
-      let fee-there =
+      let fee_there =
       number_alike 4 with_remainder with_fee (fee_at k) (fee_at k) (λ j within. third.before (fee_at k + j) (omega arith))
       ∙ second.back (omega (arith, first.as_long)) fee_fits_holds in
-      let remainder-there = third.back (omega (arith, first.as_long, second.as_long)) remainder-fits in
-      let before = row_by with_remainder k there long (with_state (state_of (get_or with_remainder (code_at k) 0)) (row_of order)) amount-there fee-there remainder-there refl in
+      let remainder_there = third.back (omega (arith, first.as_long, second.as_long)) remainder_fits in
+      let before = row_by with_remainder k there long (with_state (state_of (get_or with_remainder (code_at k) 0)) (row_of order)) amount_there fee_there remainder_there refl in
       record {
         row = code.row there long ∙ ap (with_state (state_of (code_in order))) before;
         only =

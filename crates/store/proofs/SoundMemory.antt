@@ -79,42 +79,42 @@ module _ (m : List ℕ) (h : sound_in m ≡ true) where
 
   -- bytes behind the memory
   module _ (rest : List ℕ) where
-    part-before : (at long : ℕ) → at + long ≤ length m → take long (drop at (m ++ rest)) ≡ take long (drop at m)
-    part-before at long within =
+    part_before : (at long : ℕ) → at + long ≤ length m → take long (drop at (m ++ rest)) ≡ take long (drop at m)
+    part_before at long within =
         let left = length-drop at m in
         ap (λ (l : List ℕ). take long l) (drop-append-le at m rest (omega arith)) ∙ take-append-le long (drop at m) rest (omega arith)
 
-    head-before : (j : ℕ) → j < most_shipments → head_bytes (m ++ rest) j ≡ head_bytes m j
+    head_before : (j : ℕ) → j < most_shipments → head_bytes (m ++ rest) j ≡ head_bytes m j
     unfolding head_bytes
-    head-before j few = let enough = long_enough in part-before (head_at j) head_size (omega arith)
+    head_before j few = let enough = long_enough in part_before (head_at j) head_size (omega arith)
 
     row_before : (r : ℕ) → r < most_rows → row_bytes (m ++ rest) r ≡ row_bytes m r
     unfolding row_bytes
     row_before r few =
         let enough = long_enough in
-        let amount = part-before (amount_at r) 4 (omega arith) in
-        let code = part-before (code_at r) 1 (omega arith) in
-        let fee = part-before (fee_at r) 4 (omega arith) in
-        let remainder = part-before (remainder_at r) 2 (omega arith) in
+        let amount = part_before (amount_at r) 4 (omega arith) in
+        let code = part_before (code_at r) 1 (omega arith) in
+        let fee = part_before (fee_at r) 4 (omega arith) in
+        let remainder = part_before (remainder_at r) 2 (omega arith) in
         λ i. amount i ++ (code i ++ (fee i ++ remainder i))
 
     number_before : shipments_in (m ++ rest) ≡ n
     number_before = let enough = long_enough in get_or-append m rest 0 0 (omega arith)
 
-    book-before : book_in (m ++ rest) ≡ book_in m
+    book_before : book_in (m ++ rest) ≡ book_in m
     unfolding book_in
-    book-before =
+    book_before =
         let few = few_shipments in
         let rows = (book_in_order (book_in m) book_sound).rows_fit in
         ap (λ (j : ℕ). shipments_from (m ++ rest) 0 0 j) number_before
-        ∙ shipments_alike m (m ++ rest) 0 0 n (λ j from below. head-before j (omega arith)) (λ r from below. row_before r (omega arith))
+        ∙ shipments_alike m (m ++ rest) 0 0 n (λ j from below. head_before j (omega arith)) (λ r from below. row_before r (omega arith))
 
-    pub read-before : read_book (m ++ rest) ≡ some (book_in m)
+    pub read_before : read_book (m ++ rest) ≡ some (book_in m)
     unfolding read_book sound_in
-    read-before =
+    read_before =
         let few = few_shipments in
         let enough = long_enough in
         let long = length-append m rest in
         let flags =
-        ap (λ (j : ℕ). flags_from (m ++ rest) 0 j) number_before ∙ flags_same m (m ++ rest) 0 n (λ j from below. head-before j (omega arith)) ∙ flags_in_form_lem in
-        rw (le-leb size (length (m ++ rest)) (omega arith), flags, book-before, book_sound)
+        ap (λ (j : ℕ). flags_from (m ++ rest) 0 j) number_before ∙ flags_same m (m ++ rest) 0 n (λ j from below. head_before j (omega arith)) ∙ flags_in_form_lem in
+        rw (le-leb size (length (m ++ rest)) (omega arith), flags, book_before, book_sound)

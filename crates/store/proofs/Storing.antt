@@ -34,7 +34,7 @@ orders_begun output m from k n fits =
     record { far = omega arith; left = rw (here, all) (all_left from (raw_orders m k n) output fits) }
 
 module _ {output m : List ℕ} {from k n place : ℕ} {now : List ℕ} {done : ℕ} (so_far : OrdersPut output m from k n place now done) (more : done < n)
-    (row-long : IsRow (row_bytes m (k + done))) where
+    (row_long : IsRow (row_bytes m (k + done))) where
   next_order : Left from (raw_orders m k n) output place (row_bytes m (k + done) ++ raw_orders m (k + (done + 1)) (n - (done + 1))) now
   unfolding raw_orders
   next_order =
@@ -45,15 +45,15 @@ module _ {output m : List ℕ} {from k n place : ℕ} {now : List ℕ} {done : �
   pub order_fits : place + row_size ≤ length now
   order_fits =
       let fits = piece_fits (row_bytes m (k + done)) (raw_orders m (k + (done + 1)) (n - (done + 1))) next_order in
-      omega (arith, row-long)
+      omega (arith, row_long)
 
   pub orders_on : {place' : ℕ} {now' : List ℕ} → place' ≡ place + row_size → now' ≡ put_at place (row_bytes m (k + done)) now
       → OrdersPut output m from k n place' now' (done + 1)
-  orders_on is-place is-now = record {
+  orders_on is_place is_now = record {
     far = omega arith;
     left =
         piece_put (row_bytes m (k + done)) (raw_orders m (k + (done + 1)) (n - (done + 1))) next_order
-        (is-place ∙ ap (λ (j : ℕ). place + j) (sym row-long)) is-now;
+        (is_place ∙ ap (λ (j : ℕ). place + j) (sym row_long)) is_now;
   }
 
 -- some bytes of a text, put byte after byte
@@ -120,15 +120,15 @@ gathered m k few enough =
 -- a head, eleven bytes after eleven
 pub eleven_more : (at i : ℕ) (head output : List ℕ) → IsHead head → at + length head ≤ length output → i < 6
     → put_at (at + 11 * i) (take 11 (drop (11 * i) head)) (put_at at (take (11 * i) head) output) ≡ put_at at (take (11 * (i + 1)) head) output
-eleven_more at i head output is-head fits more =
+eleven_more at i head output is_head fits more =
     let first = take (11 * i) head in
     let second = take 11 (drop (11 * i) head) in
-    let front : length first ≡ 11 * i = length-take-le (11 * i) head (omega (arith, is-head)) in
+    let front : length first ≡ 11 * i = length-take-le (11 * i) head (omega (arith, is_head)) in
     let left = length-drop (11 * i) head in
-    let eleven : length second ≡ 11 = length-take-le 11 (drop (11 * i) head) (omega (arith, is-head)) in
+    let eleven : length second ≡ 11 = length-take-le 11 (drop (11 * i) head) (omega (arith, is_head)) in
     let next : 11 * i + 11 ≡ 11 * (i + 1) = omega arith in
     ap (λ (j : ℕ). put_at (at + j) second (put_at at first output)) (sym front)
-    ∙ put_then at first second output (omega (arith, is-head))
+    ∙ put_then at first second output (omega (arith, is_head))
     ∙ ap (λ (l : List ℕ). put_at at l output) (sym (take-add (11 * i) 11 head) ∙ ap (λ (j : ℕ). take j head) next)
 
 -- what was put when nothing is left
@@ -178,12 +178,12 @@ module _ {output m : List ℕ} {from n place k : ℕ} {now : List ℕ} {i : ℕ}
 
   pub bodies_on : {place' k' : ℕ} {now' : List ℕ} → place' ≡ place + length body → now' ≡ put_at place body now → k' ≡ k + orders_at m i
       → BodiesPut output m from n place' k' now' (i + 1)
-  bodies_on is-place is-now is-k =
+  bodies_on is_place is_now is_k =
       let rows = rows_left in
-      rw (is-k, next_place) (record {
+      rw (is_k, next_place) (record {
         far = omega arith;
         few = let same : n - suc i ≡ n - (i + 1) = omega arith in rw same (omega arith);
-        left = let same : n - suc i ≡ n - (i + 1) = omega arith in rw same (piece_put body (raw_bodies m (suc i) (k + orders_at m i) (n - (i + 1))) next_body is-place is-now);
+        left = let same : n - suc i ≡ n - (i + 1) = omega arith in rw same (piece_put body (raw_bodies m (suc i) (k + orders_at m i) (n - (i + 1))) next_body is_place is_now);
       })
 
 pub bodies_done : {output m : List ℕ} {from n place k : ℕ} {now : List ℕ} {i : ℕ} → BodiesPut output m from n place k now i → n ≤ i
@@ -218,15 +218,15 @@ module _ {output m : List ℕ} {from n place start : ℕ} {now : List ℕ} {i : 
 
   pub contents_on : {long place' : ℕ} {now' : List ℕ} → long ≡ raw_length m i → long < 800_000 → place' ≡ place + 8 → now' ≡ put_at place (bytes_of 4 start ++ bytes_of 4 long) now
       → ContentsPut output m from n place' (start + long) now' (i + 1)
-  contents_on {long} is short is-place is-now =
+  contents_on {long} is short is_place is_now =
       let next : i + 1 ≡ suc i = omega arith in
       let same : n - suc i ≡ n - (i + 1) = omega arith in
       let small = so_far.small in
       record {
         far = omega arith;
         small = omega arith;
-        left = rw (next, is, same) (piece_put entry (raw_contents m (suc i) (start + raw_length m i) (n - (i + 1))) next_entry is-place
-            (is-now ∙ ap (λ (l : ℕ). put_at place (bytes_of 4 start ++ bytes_of 4 l) now) is));
+        left = rw (next, is, same) (piece_put entry (raw_contents m (suc i) (start + raw_length m i) (n - (i + 1))) next_entry is_place
+            (is_now ∙ ap (λ (l : ℕ). put_at place (bytes_of 4 start ++ bytes_of 4 l) now) is));
       }
 
 pub contents_done : {output m : List ℕ} {from n place start : ℕ} {now : List ℕ} {i : ℕ} → ContentsPut output m from n place start now i → n ≤ i

@@ -43,9 +43,9 @@ module _ (bytes : List ℕ) (i k at : ℕ) (there : at ≤ length bytes) where
 
   pub body_told : {n : ℕ} {told : Bool} → head_size ≤ length bytes - at → n ≡ count_from bytes at
       → told ≡ (leb (k + n) most_rows && (leb (head_size + row_size * n) (length bytes - at) && is_entry bytes i at (head_size + row_size * n))) → told ≡ is_body bytes i k at
-  body_told {n} room is-count told =
+  body_told {n} room is_count told =
       and-true (leb (at + head_size) (length bytes)) _ _ (le-leb (at + head_size) (length bytes) (omega arith))
-      (rw (← is-count) (told ∙ ap (λ (t : Bool). leb (k + n) most_rows && (t && is_entry bytes i at (head_size + row_size * n))) (room_left (head_size + row_size * n))))
+      (rw (← is_count) (told ∙ ap (λ (t : Bool). leb (k + n) most_rows && (t && is_entry bytes i at (head_size + row_size * n))) (room_left (head_size + row_size * n))))
 
 -- rows of a book with a shipment more
 rows_behind : (book : Book) (s : Shipment) → rows_in (book ++ (s ∷ [])) ≡ rows_in book + length s.rows
@@ -78,15 +78,15 @@ one_more_unpacked bytes at {k = k} {n = n} there rest is stored =
 -- a body: its head, and then its rows
 pub body_unpacked : (bytes : List ℕ) (i k at n : ℕ) {l m m' head : List ℕ} → head ≡ head_from bytes at → IsHead head → n ≡ count_from bytes at → i < most_shipments
     → size ≤ length l → m ≡ put_at (head_at i) head l → RowsStored (given_row bytes (at + head_size) k) k n m m' → BodyUnpacked bytes i k at l m'
-body_unpacked bytes i k at n {l} {m} {m'} {head} is-head whole is-count few enough put rows =
+body_unpacked bytes i k at n {l} {m} {m'} {head} is_head whole is_count few enough put rows =
     let start : at + head_size + row_size * 0 ≡ at + head_size = omega arith in
     let stored : HeadStored head i l m = rw put (head_put head i l whole few enough) in
     record {
-      head = heads_kept rows.only i few ∙ stored.bytes ∙ is-head;
-      rows = rw (← is-count) (rw start at (listed m' bytes (at + head_size) k 0 n (λ j within.
+      head = heads_kept rows.only i few ∙ stored.bytes ∙ is_head;
+      rows = rw (← is_count) (rw start at (listed m' bytes (at + head_size) k 0 n (λ j within.
           let place : k + j - k ≡ 0 + j = omega arith in
           rw place at (rows.rows (k + j) (omega arith) (omega arith)))));
-      only = rw (← is-count) (only_again (with_rows_lem stored.only) (with_heads rows.only));
+      only = rw (← is_count) (only_again (with_rows_lem stored.only) (with_heads rows.only));
     }
 
 -- flags, head after head
@@ -150,8 +150,8 @@ module _ {bytes : List ℕ} {n : ℕ} {l m : List ℕ} {i at k : ℕ} (so_far : 
     abbrev c : ℕ
     c = count_from bytes at
 
-    pub body-room : (at + head_size ≤ length bytes) × (k + c ≤ most_rows) × (at + body_from bytes at ≤ length bytes)
-    body-room =
+    pub body_room : (at + head_size ≤ length bytes) × (k + c ≤ most_rows) × (at + body_from bytes at ≤ length bytes)
+    body_room =
         let rest = and_right (leb (at + head_size) (length bytes)) _ is in
         let behind = and_right (leb (k + c) most_rows) _ rest in (
           leb-true (at + head_size) (length bytes) (and_left (leb (at + head_size) (length bytes)) _ is),
@@ -162,14 +162,14 @@ module _ {bytes : List ℕ} {n : ℕ} {l m : List ℕ} {i at k : ℕ} (so_far : 
     abbrev s : Shipment
     s = shipment_in (head_from bytes at) (rows_from_bytes bytes (at + head_size) c)
 
-    whole-on : whole_from bytes i k at (suc (n - suc i)) ≡ whole_from bytes (suc i) (k + c) (at + body_from bytes at) (n - suc i)
+    whole_on : whole_from bytes i k at (suc (n - suc i)) ≡ whole_from bytes (suc i) (k + c) (at + body_from bytes at) (n - suc i)
     unfolding whole_from
-    whole-on =
+    whole_on =
         four_yes (leb (at + head_size) (length bytes)) (leb (k + c) most_rows) (leb (at + body_from bytes at) (length bytes)) (is_entry bytes i at (body_from bytes at)) _ is
 
-    book-on : shipments_from m 0 0 i ++ (s ∷ book_from bytes (at + body_from bytes at) (n - suc i)) ≡ shipments_from m 0 0 i ++ book_from bytes at (n - i)
+    book_on : shipments_from m 0 0 i ++ (s ∷ book_from bytes (at + body_from bytes at) (n - suc i)) ≡ shipments_from m 0 0 i ++ book_from bytes at (n - i)
     unfolding book_from
-    book-on = ap (λ (j : ℕ). shipments_from m 0 0 i ++ book_from bytes at j) (sym one_left)
+    book_on = ap (λ (j : ℕ). shipments_from m 0 0 i ++ book_from bytes at j) (sym one_left)
 
     module _ {m' : List ℕ} (most : n ≤ most_shipments) (body : BodyUnpacked bytes i k at m m') where
       heads_before : (j : ℕ) → j < i → head_bytes m' j ≡ head_bytes m j
@@ -179,14 +179,14 @@ module _ {bytes : List ℕ} {n : ℕ} {l m : List ℕ} {i at k : ℕ} (so_far : 
       shipment_new =
           (λ j. shipment_in (body.head j) (rows_from m' k (order_count_in (body.head j)))) ∙ ap (λ (rows : List Row). shipment_in (head_from bytes at) rows) body.rows
 
-      shipment-more : shipments_from m' 0 0 (suc i) ≡ shipments_from m 0 0 i ++ (s ∷ [])
-      shipment-more =
+      shipment_more : shipments_from m' 0 0 (suc i) ≡ shipments_from m 0 0 i ++ (s ∷ [])
+      shipment_more =
           appended m m' i s heads_before (λ r before. let from = so_far.from in let few = so_far.few in body.only.other_rows r (omega arith) (λ among. omega (arith, among.0)))
           (rw so_far.from at shipment_new)
 
-      flags-on : (flags_from m' 0 (suc i) && flags_from_bytes bytes (at + body_from bytes at) (n - suc i)) ≡ (flags_from m 0 i && flags_from_bytes bytes at (n - i))
+      flags_on : (flags_from m' 0 (suc i) && flags_from_bytes bytes (at + body_from bytes at) (n - suc i)) ≡ (flags_from m 0 i && flags_from_bytes bytes at (n - i))
       unfolding flags_from_bytes
-      flags-on =
+      flags_on =
           let here : 0 + i ≡ i = omega arith in
           let before = flags_same m m' 0 i (λ j from below. heads_before j (omega arith)) in
           let last = ap (λ (j : ℕ). flags_in_form (head_bytes m' j)) here ∙ ap flags_in_form body.head in
@@ -201,25 +201,25 @@ module _ {bytes : List ℕ} {n : ℕ} {l m : List ℕ} {i at k : ℕ} (so_far : 
         rows_behind (shipments_from m 0 0 i) s
         ∙ (λ t. sym so_far.from t + rows_many bytes (at + head_size) c t)
 
-    pub unpacking-on : {m' : List ℕ} {at' k' : ℕ} → n ≤ most_shipments → BodyUnpacked bytes i k at m m' → at' ≡ at + body_from bytes at → k' ≡ k + c
+    pub unpacking_on : {m' : List ℕ} {at' k' : ℕ} → n ≤ most_shipments → BodyUnpacked bytes i k at m m' → at' ≡ at + body_from bytes at → k' ≡ k + c
         → Unpacking bytes n l m' (i + 1) at' k'
-    unpacking-on {m'} most body is_at is-k =
+    unpacking_on {m'} most body is_at is_k =
         let next : i + 1 ≡ suc i = omega arith in
-        let room = body-room in
+        let room = body_room in
         let fits = room.1 in
         let ends = room.2 in
-        let grown = shipment-more most body in
-        rw (next, is_at, is-k) (record {
+        let grown = shipment_more most body in
+        rw (next, is_at, is_k) (record {
           far = omega arith;
           long = ends;
           few = fits;
           from = sym (ap rows_in grown ∙ rows_on);
-          whole = so_far.whole ∙ ap (λ (j : ℕ). whole_from bytes i k at j) one_left ∙ whole-on;
+          whole = so_far.whole ∙ ap (λ (j : ℕ). whole_from bytes i k at j) one_left ∙ whole_on;
           book =
               ap (λ (book : Book). book ++ book_from bytes (at + body_from bytes at) (n - suc i)) grown
               ∙ append_assoc (shipments_from m 0 0 i) (s ∷ []) (book_from bytes (at + body_from bytes at) (n - suc i))
-              ∙ book-on ∙ so_far.book;
-          flags = flags-on most body ∙ so_far.flags;
+              ∙ book_on ∙ so_far.book;
+          flags = flags_on most body ∙ so_far.flags;
           as_long = body.only.as_long ∙ so_far.as_long;
         })
 

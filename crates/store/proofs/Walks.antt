@@ -45,9 +45,9 @@ taken_small (suc n) (b ∷ l) small zero = small 0
 taken_small (suc n) (b ∷ l) small (suc j) = taken_small n l (λ i. small (suc i)) j
 
 pub joined_small : (a b : List ℕ) → ((j : ℕ) → get_or a j 0 < 256) → ((j : ℕ) → get_or b j 0 < 256) → (j : ℕ) → get_or (a ++ b) j 0 < 256
-joined_small [] b small-a small_b j = small_b j
-joined_small (x ∷ a) b small-a small_b zero = small-a 0
-joined_small (x ∷ a) b small-a small_b (suc j) = joined_small a b (λ i. small-a (suc i)) small_b j
+joined_small [] b small_a small_b j = small_b j
+joined_small (x ∷ a) b small_a small_b zero = small_a 0
+joined_small (x ∷ a) b small_a small_b (suc j) = joined_small a b (λ i. small_a (suc i)) small_b j
 
 module _ (bytes : List ℕ) (small : (j : ℕ) → get_or bytes j 0 < 256) where
   pub part_small : (at n j : ℕ) → get_or (take n (drop at bytes)) j 0 < 256
@@ -130,7 +130,7 @@ module _ (bytes : List ℕ) (small : (j : ℕ) → get_or bytes j 0 < 256) where
       let entry = and_left (is_entry bytes i at long) _ table in
       let later = and_right (is_entry bytes i at long) _ table in
       let start = eqb-true (number_at 4 bytes place) at (and_left (eqb (number_at 4 bytes place) at) _ entry) in
-      let length-there = eqb-true (number_at 4 bytes (place + 4)) long (and_right (eqb (number_at 4 bytes place) at) _ entry) in
+      let length_there = eqb-true (number_at 4 bytes (place + 4)) long (and_right (eqb (number_at 4 bytes place) at) _ entry) in
       let body = body_long at rows (leb-true (at + head_size) (length bytes) (and_left (leb (at + head_size) (length bytes)) _ whole)) (and_left (flags_in_form (head_from bytes at)) _ flags) (rows_many bytes (at + head_size) c) in
       let all : 2 + 8 * (i + suc n) ≡ 2 + 8 * (suc i + n) = omega arith in
       let more = contents_forth (suc i) (k + c) next n later (and_right (flags_in_form (head_from bytes at)) _ flags) (omega arith) (is ∙ ap (λ (j : ℕ). drop j bytes) all) in
@@ -141,7 +141,7 @@ module _ (bytes : List ℕ) (small : (j : ℕ) → get_or bytes j 0 < 256) where
       (λ j. ((bytes_of 4 at ++ bytes_of 4 (body j)) ++ contents_from (at + body j) (book_from bytes next n)) ++ rest)
       ∙ append_assoc (bytes_of 4 at ++ bytes_of 4 long) others rest
       ∙ append_assoc (bytes_of 4 at) (bytes_of 4 long) (others ++ rest)
-      ∙ (λ j. bytes_of 4 (sym start j) ++ (bytes_of 4 (sym length-there j) ++ (others ++ rest)))
+      ∙ (λ j. bytes_of 4 (sym start j) ++ (bytes_of 4 (sym length_there j) ++ (others ++ rest)))
       ∙ first
 
   -- all of it

@@ -76,18 +76,18 @@ module _ (b : ℕ) where
     unfolding before
     before_end h = rw (drop_of_length-le s h)
 
-    pub skip-part : (e : ℕ) → i ≤ e → e ≤ length s → has_byte b (part i e s) ≡ false → e + before b (drop e s) ≡ i + before b (drop i s)
-    skip-part e h l n =
+    pub skip_part : (e : ℕ) → i ≤ e → e ≤ length s → has_byte b (part i e s) ≡ false → e + before b (drop e s) ≡ i + before b (drop i s)
+    skip_part e h l n =
         let d : i + (e - i) ≡ e = omega arith in
         let m : e - i ≤ length (drop i s) = omega (arith, length-drop i s) in
         let p = rw (drop-drop, d) at (before_past (e - i) (drop i s) m n) in
         omega (arith, p)
 
-    pub find-le : i ≤ length s → i + before b (drop i s) ≤ length s
-    find-le h = omega (arith, before_le (drop i s), length-drop i s)
+    pub find_le : i ≤ length s → i + before b (drop i s) ≤ length s
+    find_le h = omega (arith, before_le (drop i s), length-drop i s)
 
-    pub find-stands : i + before b (drop i s) < length s → get_or s (i + before b (drop i s)) 0 ≡ b
-    find-stands h =
+    pub find_stands : i + before b (drop i s) < length s → get_or s (i + before b (drop i s)) 0 ≡ b
+    find_stands h =
         sym (get_or-drop i s (before b (drop i s)) 0) ∙ before_found (drop i s) (omega (arith, length-drop i s))
 
 -- letters and digits, passed one by one

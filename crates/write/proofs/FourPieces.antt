@@ -17,9 +17,9 @@ module _ (a b c d : List ℕ) (from : ℕ) (output : List ℕ) (fits : from + le
   pub first_fits : from + length a ≤ length output
   first_fits = piece_fits a (b ++ (c ++ d)) first
 
-  module _ {at : ℕ} {now : List ℕ} (is_at : at ≡ from + length a) (is-now : now ≡ put_at from a output) where
+  module _ {at : ℕ} {now : List ℕ} (is_at : at ≡ from + length a) (is_now : now ≡ put_at from a output) where
     second : Left from whole output at (b ++ (c ++ d)) now
-    second = piece_put a (b ++ (c ++ d)) first is_at is-now
+    second = piece_put a (b ++ (c ++ d)) first is_at is_now
 
     pub second_fits : at + length b ≤ length now
     second_fits = piece_fits b (c ++ d) second
@@ -28,16 +28,16 @@ module _ (a b c d : List ℕ) (from : ℕ) (output : List ℕ) (fits : from + le
       third : Left from whole output at₂ (c ++ d) now₂
       third = piece_put b (c ++ d) second is-at₂ is-now₂
 
-      pub third-fits : at₂ + length c ≤ length now₂
-      third-fits = piece_fits c d third
+      pub third_fits : at₂ + length c ≤ length now₂
+      third_fits = piece_fits c d third
 
       module _ {at₃ : ℕ} {now₃ : List ℕ} (is-at₃ : at₃ ≡ at₂ + length c) (is-now₃ : now₃ ≡ put_at at₂ c now₂) where
         fourth : Left from whole output at₃ d now₃
         fourth = piece_put c d third is-at₃ is-now₃
 
-        pub fourth-fits : at₃ + length d ≤ length now₃
-        fourth-fits = last_fits d fourth
+        pub fourth_fits : at₃ + length d ≤ length now₃
+        fourth_fits = last_fits d fourth
 
-        pub four-put : {at₄ : ℕ} {now₄ : List ℕ} → at₄ ≡ at₃ + length d → now₄ ≡ put_at at₃ d now₃
+        pub four_put : {at₄ : ℕ} {now₄ : List ℕ} → at₄ ≡ at₃ + length d → now₄ ≡ put_at at₃ d now₃
             → (at₄ ≡ from + length whole) × (now₄ ≡ put_at from whole output)
-        four-put is-at₄ is-now₄ = last_put d fourth is-at₄ is-now₄
+        four_put is-at₄ is-now₄ = last_put d fourth is-at₄ is-now₄

@@ -100,9 +100,9 @@ module _ (n : ℕ) (at : ℕ) (output : List ℕ) {places : ℕ} (is : places_of
 
   pub spelled_put : {behind : ℕ} {now : List ℕ} → behind ≡ at + places → now ≡ put_at at (digits places n) output
       → (behind ≡ at + length (spelled n)) × (now ≡ put_at at (spelled n) output)
-  spelled_put is-behind is-now =
+  spelled_put is_behind is_now =
       let long = digits_long (places_of n) n in
-      (omega arith, is-now ∙ ap (λ (k : ℕ). put_at at (digits k n) output) (sym is))
+      (omega arith, is_now ∙ ap (λ (k : ℕ). put_at at (digits k n) output) (sym is))
 
 -- A text that is put piece by piece from a place on: what is left of it, put where the last piece ended, makes the whole.
 pub record Left (from : ℕ) (whole output : List ℕ) (at : ℕ) (rest now : List ℕ) : Type 0 where
@@ -127,12 +127,12 @@ module _ {from : ℕ} {whole output now : List ℕ} {at : ℕ} (piece rest : Lis
   piece_fits = let all = pieces_long in omega arith
 
   pub piece_put : {place : ℕ} {now' : List ℕ} → place ≡ at + length piece → now' ≡ put_at at piece now → Left from whole output place rest now'
-  piece_put is-place is-now =
+  piece_put is_place is_now =
       let l = length-append piece rest in
       let long = put_length at piece now piece_fits in
       let a = left.place in
       let c = left.as_long in
-      rw (is-place, is-now) (record {
+      rw (is_place, is_now) (record {
         place = omega arith;
         fits = left.fits;
         as_long = omega arith;
@@ -149,7 +149,7 @@ module _ {from : ℕ} {whole output now : List ℕ} {at : ℕ} (piece : List ℕ
       omega arith
 
   pub last_put : {place : ℕ} {now' : List ℕ} → place ≡ at + length piece → now' ≡ put_at at piece now → (place ≡ from + length whole) × (now' ≡ put_at from whole output)
-  last_put is-place is-now = (is-place ∙ left.place, is-now ∙ left.makes)
+  last_put is_place is_now = (is_place ∙ left.place, is_now ∙ left.makes)
 
 -- a text that is put at the start, and its last piece
 pub whole_left : (whole output : List ℕ) → length whole ≤ length output → Left 0 whole output 0 whole output
@@ -157,9 +157,9 @@ whole_left whole output fits = all_left 0 whole output (omega (arith, fits))
 
 pub whole_put : {whole output now : List ℕ} {at : ℕ} (piece : List ℕ) → Left 0 whole output at piece now
     → {place : ℕ} {now' : List ℕ} → place ≡ at + length piece → now' ≡ put_at at piece now → (place ≡ length whole) × (now' ≡ put_at 0 whole output)
-whole_put piece left is-place is-now = let end = last_put piece left is-place is-now in (let at = end.0 in omega arith, end.1)
+whole_put piece left is_place is_now = let end = last_put piece left is_place is_now in (let at = end.0 in omega arith, end.1)
 
 -- and its first piece
 pub first_put : (piece rest output : List ℕ) → length (piece ++ rest) ≤ length output
     → {place : ℕ} {now : List ℕ} → place ≡ length piece → now ≡ put_at 0 piece output → Left 0 (piece ++ rest) output place rest now
-first_put piece rest output fits is-place is-now = piece_put piece rest (whole_left (piece ++ rest) output fits) (omega arith) is-now
+first_put piece rest output fits is_place is_now = piece_put piece rest (whole_left (piece ++ rest) output fits) (omega arith) is_now

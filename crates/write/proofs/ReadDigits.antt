@@ -133,9 +133,9 @@ module _ (t : List ℕ) (v : ℕ) (some : 1 ≤ length t) (few : length t ≤ 18
       let place = some_place v in
       let rises = tens_rise {i = places_of v} {j = l} (omega arith) in
       let below = within_places v in
-      let zero-there = zero_first l v (omega arith) in
+      let zero_there = zero_first l v (omega arith) in
       let is = read_digits (suc l) t v long r in
-      let first : get_or t 0 0 ≡ 0x30 = ap (λ (s : List ℕ). get_or s 0 0) (sym is) ∙ zero-there in
+      let first : get_or t 0 0 ≡ 0x30 = ap (λ (s : List ℕ). get_or s 0 0) (sym is) ∙ zero_there in
       let many = ne_eqb (length t) 1 (λ e. omega arith) in
       false≢true (rw (many, eq-eqb (get_or t 0 0) 0x30 first) at led)
 

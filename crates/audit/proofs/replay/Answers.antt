@@ -1,6 +1,6 @@
 -- `audit::replay` asks of the journal, of the table and of the memory, in that order.
 use Rattle.text.proofs.Branches.{told}
-use Rattle.audit.proofs.ReplayEnds.{empty_is_read, not_empty, counted, ends_not_encoded, ends-too-few, ends-not-empty, ends_replayed}
+use Rattle.audit.proofs.ReplayEnds.{empty_is_read, not_empty, counted, ends_not_encoded, ends_too_few, ends_not_empty, ends_replayed}
 use native.Mathlib.Omega.{arith}
 use Rattle.audit.proofs.replay.Goals as goal
 
@@ -12,11 +12,11 @@ read_eight-n-requires c = let long = counted _ (told _ _ _ c.does_journal_fit.en
 
 pub returns-then-answers-n : goal.returns-then-answers-n
 returns-then-answers-n c =
-    ends-too-few (told _ _ _ c.does_journal_fit.ensures c.if-not-does_journal_fit.false) (omega (arith, c.if-answers-n.true, c.read_eight-n.ensures))
+    ends_too_few (told _ _ _ c.does_journal_fit.ensures c.if-not-does_journal_fit.false) (omega (arith, c.if-answers-n.true, c.read_eight-n.ensures))
 
 pub returns-then-not-is_empty : goal.returns-then-not-is_empty
 returns-then-not-is_empty c =
-    ends-not-empty (told _ _ _ c.does_journal_fit.ensures c.if-not-does_journal_fit.false) (omega (arith, c.if-answers-n.false, c.read_eight-n.ensures))
+    ends_not_empty (told _ _ _ c.does_journal_fit.ensures c.if-not-does_journal_fit.false) (omega (arith, c.if-answers-n.false, c.read_eight-n.ensures))
     (not_empty _ (told _ _ _ c.is_empty.ensures c.if-not-is_empty.true))
 
 pub replay_all-requires : goal.replay_all-requires

@@ -1,6 +1,6 @@
 -- `audit::replay_all`: the calls so far, and what is left of the journal, are the whole.
 use Rattle.audit.proofs.JournalLaws.{fields_there}
-use Rattle.audit.proofs.CallByCall.{starts, entry-left, room_left, next_fits, turns, all_made}
+use Rattle.audit.proofs.CallByCall.{starts, entry_left, room_left, next_fits, turns, all_made}
 use native.Mathlib.Omega.{arith}
 use borrow.Author.Rules.{rules}
 use Rattle.audit.proofs.replay_all.Goals as goal
@@ -10,7 +10,7 @@ loop-i-init c = starts c.requires
 
 pub play-reply-requires : goal.play-reply-requires
 play-reply-requires c =
-    entry-left c.loop-i.invariant c.loop-i-test.true c.rest-entry.ensures
+    entry_left c.loop-i.invariant c.loop-i-test.true c.rest-entry.ensures
 
 pub bounds-answers-i : goal.bounds-answers-i
 bounds-answers-i c =
@@ -19,7 +19,7 @@ bounds-answers-i c =
 
 pub entry_length-at-requires : goal.entry_length-at-requires
 entry_length-at-requires c =
-    fields_there _ (entry-left c.loop-i.invariant c.loop-i-test.true c.rest-entry.ensures)
+    fields_there _ (entry_left c.loop-i.invariant c.loop-i-test.true c.rest-entry.ensures)
 
 pub overflow_add-at : goal.overflow_add-at
 overflow_add-at c =

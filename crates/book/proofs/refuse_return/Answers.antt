@@ -1,6 +1,6 @@
 -- `book::refuse_return` asks where the shipment is found.
 use Rattle.acts.proofs.PlaceInBook.{sits}
-use Rattle.book.proofs.NoReturns.{refused_unsound, refused_unknown, refused-paired, refused-not-paired}
+use Rattle.book.proofs.NoReturns.{refused_unsound, refused_unknown, refused_paired, refused_not_paired}
 use Rattle.acts.specs.Inner.Place.{called_in}
 use mathlib.Core.Path.{sym, ◌∙◌}
 use Rattle.book.proofs.refuse_return.Goals as goal
@@ -18,10 +18,10 @@ returns-in-Unknown c = refused_unknown _ _ (sym c.place_called.ensures ∙ c.in-
 
 pub returns-then-is_paired : goal.returns-then-is_paired
 returns-then-is_paired c =
-    refused-paired _ _ (sym c.place_called.ensures ∙ c.in-At.is) c.head_bytes.ensures.0 c.is_paired.ensures
+    refused_paired _ _ (sym c.place_called.ensures ∙ c.in-At.is) c.head_bytes.ensures.0 c.is_paired.ensures
     c.if-is_paired.true
 
 pub returns-else-is_paired : goal.returns-else-is_paired
 returns-else-is_paired c =
-    refused-not-paired _ _ (sym c.place_called.ensures ∙ c.in-At.is) c.head_bytes.ensures.0 c.is_paired.ensures
+    refused_not_paired _ _ (sym c.place_called.ensures ∙ c.in-At.is) c.head_bytes.ensures.0 c.is_paired.ensures
     c.if-is_paired.false

@@ -17,12 +17,12 @@ put_body-place-requires c =
 pub overflow_add-k : goal.overflow_add-k
 overflow_add-k c =
     let rows = body_rows c.loop-i.invariant c.loop-i-test.true in
-    let is-count = c.orders.ensures.0 ∙ ap order_count_in c.head_bytes.ensures.0 in
+    let is_count = c.orders.ensures.0 ∙ ap order_count_in c.head_bytes.ensures.0 in
     omega arith
 
 pub loop-i-preserved : goal.loop-i-preserved
 loop-i-preserved c =
-    let is-count = c.orders.ensures.0 ∙ ap order_count_in c.head_bytes.ensures.0 in
+    let is_count = c.orders.ensures.0 ∙ ap order_count_in c.head_bytes.ensures.0 in
     bodies_on c.loop-i.invariant c.loop-i-test.true c.put_body-place.ensures.value c.put_body-place.ensures.output_after (omega arith)
 
 pub returns : goal.returns

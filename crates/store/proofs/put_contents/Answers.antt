@@ -22,8 +22,8 @@ overflow_add-start-in-loop-i c =
 
 pub loop-i-preserved : goal.loop-i-preserved
 loop-i-preserved c =
-    let is-count = c.orders.ensures.0 ∙ ap order_count_in c.head_bytes.ensures.0 in
-    contents_on c.loop-i.invariant c.loop-i-test.true (c.body_length-length.ensures.0 ∙ ap (λ (n : ℕ). head_size + row_size * n) is-count) c.body_length-length.ensures.1
+    let is_count = c.orders.ensures.0 ∙ ap order_count_in c.head_bytes.ensures.0 in
+    contents_on c.loop-i.invariant c.loop-i-test.true (c.body_length-length.ensures.0 ∙ ap (λ (n : ℕ). head_size + row_size * n) is_count) c.body_length-length.ensures.1
     c.put_entry-place.ensures.value c.put_entry-place.ensures.output_after
 
 pub returns : goal.returns

@@ -1,16 +1,16 @@
 -- `acts::order::handle_at` asks document 01's questions in turn.
 use native.Mathlib.Omega.{arith}
-use Rattle.acts.proofs.Orders.{unpaired-at, no-order-at, from_one, row-there, unfit-at, handled-at}
+use Rattle.acts.proofs.Orders.{unpaired_at, no_order_at, from_one, row_there, unfit_at, handled_at}
 use borrow.Author.Rules.{rules}
 use Rattle.acts.proofs.order.handle_at.Goals as goal
 
 pub returns-then-not-is_paired : goal.returns-then-not-is_paired
 returns-then-not-is_paired c =
-    unpaired-at _ _ _ _ _ c.head_bytes-head.ensures.0 c.is_paired.ensures c.if-not-is_paired.true
+    unpaired_at _ _ _ _ _ c.head_bytes-head.ensures.0 c.is_paired.ensures c.if-not-is_paired.true
 
 pub returns-then-not-is_between : goal.returns-then-not-is_between
 returns-then-not-is_between c =
-    no-order-at c.args.memory.now c.args.i c.args.k c.args.deed c.args.number
+    no_order_at c.args.memory.now c.args.i c.args.k c.args.deed c.args.number
     c.head_bytes-head.ensures.0 c.is_paired.ensures c.if-not-is_paired.false c.orders.ensures.0 c.is_between.ensures
     c.if-not-is_between.true
 
@@ -25,7 +25,7 @@ overflow_add-at c =
     record {
       fits = omega (
         arith,
-        row-there c.args.memory.now c.args.i c.args.k c.args.deed c.args.number
+        row_there c.args.memory.now c.args.i c.args.k c.args.deed c.args.number
             c.head_bytes-head.ensures.0 c.is_paired.ensures c.if-not-is_paired.false c.orders.ensures.0 c.is_between.ensures
             c.if-not-is_between.false c.requires,
       );
@@ -33,7 +33,7 @@ overflow_add-at c =
 
 pub fee-fee-requires : goal.fee-fee-requires
 fee-fee-requires c = (
-  row-there c.args.memory.now c.args.i c.args.k c.args.deed c.args.number
+  row_there c.args.memory.now c.args.i c.args.k c.args.deed c.args.number
       c.head_bytes-head.ensures.0 c.is_paired.ensures c.if-not-is_paired.false c.orders.ensures.0 c.is_between.ensures
       c.if-not-is_between.false c.requires,
   search rules,
@@ -41,7 +41,7 @@ fee-fee-requires c = (
 
 pub amount-amount-requires : goal.amount-amount-requires
 amount-amount-requires c = (
-  row-there c.args.memory.now c.args.i c.args.k c.args.deed c.args.number
+  row_there c.args.memory.now c.args.i c.args.k c.args.deed c.args.number
       c.head_bytes-head.ensures.0 c.is_paired.ensures c.if-not-is_paired.false c.orders.ensures.0 c.is_between.ensures
       c.if-not-is_between.false c.requires,
   search rules,
@@ -49,7 +49,7 @@ amount-amount-requires c = (
 
 pub state-state-requires : goal.state-state-requires
 state-state-requires c = (
-  row-there c.args.memory.now c.args.i c.args.k c.args.deed c.args.number
+  row_there c.args.memory.now c.args.i c.args.k c.args.deed c.args.number
       c.head_bytes-head.ensures.0 c.is_paired.ensures c.if-not-is_paired.false c.orders.ensures.0 c.is_between.ensures
       c.if-not-is_between.false c.requires,
   search rules,
@@ -57,13 +57,13 @@ state-state-requires c = (
 
 pub returns-then-not-does_fit : goal.returns-then-not-does_fit
 returns-then-not-does_fit c =
-    unfit-at c.args.memory.now c.args.i c.args.k c.args.deed c.args.number
+    unfit_at c.args.memory.now c.args.i c.args.k c.args.deed c.args.number
     c.head_bytes-head.ensures.0 c.is_paired.ensures c.if-not-is_paired.false c.orders.ensures.0 c.is_between.ensures
     c.if-not-is_between.false c.state-state.ensures c.does_fit.ensures c.if-not-does_fit.true
 
 pub store_state-requires : goal.store_state-requires
 store_state-requires c = (
-  row-there c.args.memory.now c.args.i c.args.k c.args.deed c.args.number
+  row_there c.args.memory.now c.args.i c.args.k c.args.deed c.args.number
       c.head_bytes-head.ensures.0 c.is_paired.ensures c.if-not-is_paired.false c.orders.ensures.0 c.is_between.ensures
       c.if-not-is_between.false c.requires,
   search rules,
@@ -72,7 +72,7 @@ store_state-requires c = (
 pub returns : goal.returns
 returns c =
     rw (c.store_state.ensures, c.state_after.ensures)
-    (handled-at c.args.memory.now c.args.i c.args.k c.args.deed c.args.number
+    (handled_at c.args.memory.now c.args.i c.args.k c.args.deed c.args.number
     c.head_bytes-head.ensures.0 c.is_paired.ensures c.if-not-is_paired.false c.orders.ensures.0 c.is_between.ensures
     c.if-not-is_between.false c.state-state.ensures c.does_fit.ensures
     c.requires c.fee-fee.ensures.0 c.amount-amount.ensures.0 c.if-not-does_fit.false)

@@ -3,7 +3,7 @@ use native.Mathlib.Omega.{arith}
 use Rattle.sound.proofs.ReadLaws.{sound_parts}
 use Rattle.acts.specs.Inner.Place.{called_in}
 use Rattle.acts.proofs.PlaceInBook.{looked_for, sits}
-use Rattle.acts.proofs.PlaceOfName.{named-unsound, named-unknown, named-at, named_other}
+use Rattle.acts.proofs.PlaceOfName.{named_unsound, named_unknown, named_at, named_other}
 use Rattle.acts.proofs.place.place_named.Goals as goal
 
 pub shipments-requires : goal.shipments-requires
@@ -20,15 +20,15 @@ head_bytes-requires c =
 
 pub returns-in-Unsound : goal.returns-in-Unsound
 returns-in-Unsound c =
-    named-unsound _ _ c.requires c.shipments.ensures.0 c.find_called.ensures c.in-Unsound.is
+    named_unsound _ _ c.requires c.shipments.ensures.0 c.find_called.ensures c.in-Unsound.is
 
 pub returns-in-Unknown : goal.returns-in-Unknown
 returns-in-Unknown c =
-    named-unknown _ _ c.requires c.shipments.ensures.0 c.find_called.ensures c.in-Unknown.is
+    named_unknown _ _ c.requires c.shipments.ensures.0 c.find_called.ensures c.in-Unknown.is
 
 pub returns-then-is_named : goal.returns-then-is_named
 returns-then-is_named c =
-    named-at _ _ c.requires c.shipments.ensures.0 c.find_called.ensures c.in-At.is
+    named_at _ _ c.requires c.shipments.ensures.0 c.find_called.ensures c.in-At.is
     c.head_bytes.ensures.0 c.is_named.ensures c.if-is_named.true
 
 pub returns-else-is_named : goal.returns-else-is_named

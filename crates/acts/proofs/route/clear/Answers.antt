@@ -10,8 +10,8 @@ loop-done-init c = (λ route is. none_cleared, omega arith, omega arith, omega a
 pub clear_row-taken-requires : goal.clear_row-taken-requires
 clear_row-taken-requires c =
     let m = c.args.memory.now in
-    let is-head = c.head_bytes-head.ensures.0 in
-    let count_is = count_at m c.args.i c.args.k is-head c.orders-n.ensures.0 in
+    let is_head = c.head_bytes-head.ensures.0 in
+    let count_is = count_at m c.args.i c.args.k is_head c.orders-n.ensures.0 in
     let cleared = c.loop-done.invariant.0 c.args.route c.wait_table-table.ensures in (
       omega (arith, count_is, c.requires.0.room),
       rw cleared.returned.only.as_long c.requires.0.enough,
@@ -33,8 +33,8 @@ loop-done-preserved c =
 pub of-sum-requires : goal.of-sum-requires
 of-sum-requires c =
     let m = c.args.memory.now in
-    let is-head = c.head_bytes-head.ensures.0 in
-    let count_is = count_at m c.args.i c.args.k is-head c.orders-n.ensures.0 in
+    let is_head = c.head_bytes-head.ensures.0 in
+    let count_is = count_at m c.args.i c.args.k is_head c.orders-n.ensures.0 in
     let cleared = c.loop-done.invariant.0 c.args.route c.wait_table-table.ensures in
     let all : c.loop-done.done ≡ c.orders-n.result = omega (arith, c.loop-done-test.false) in
     rw (worth_is m c.args.i c.args.k (rw (all ∙ count_is) at cleared) c.wait_of-wait.ensures.0) c.requires.1
@@ -46,8 +46,8 @@ shape_of-memory c =
 pub returns : goal.returns
 returns c =
     let m = c.args.memory.now in
-    let is-head = c.head_bytes-head.ensures.0 in
-    let count_is = count_at m c.args.i c.args.k is-head c.orders-n.ensures.0 in
+    let is_head = c.head_bytes-head.ensures.0 in
+    let count_is = count_at m c.args.i c.args.k is_head c.orders-n.ensures.0 in
     let cleared = c.loop-done.invariant.0 c.args.route c.wait_table-table.ensures in
     let all : c.loop-done.done ≡ c.orders-n.result = omega (arith, c.loop-done-test.false) in
     all_cleared m c.args.i c.args.k (rw (all ∙ count_is) at cleared) c.wait_of-wait.ensures.0 c.of-sum.ensures

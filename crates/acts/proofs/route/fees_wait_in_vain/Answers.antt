@@ -1,6 +1,6 @@
 -- `acts::route::fees_wait_in_vain` asks for the flat part, then for the sum.
 use native.Mathlib.Omega.{arith}
-use Rattle.acts.proofs.Returns.{count_at, none-in-vain, sum-in-vain}
+use Rattle.acts.proofs.Returns.{count_at, none_in_vain, sum_in_vain}
 use Rattle.acts.proofs.route.fees_wait_in_vain.Goals as goal
 
 pub fees_waiting-requires : goal.fees_waiting-requires
@@ -10,9 +10,9 @@ fees_waiting-requires c =
 
 pub returns-then-terms-eq0 : goal.returns-then-terms-eq0
 returns-then-terms-eq0 c =
-    sum-in-vain c.args.memory.now c.args.i c.args.k c.head_bytes-head.ensures.0 c.args.route c.terms-terms.ensures c.if-terms-eq0.true
+    sum_in_vain c.args.memory.now c.args.i c.args.k c.head_bytes-head.ensures.0 c.args.route c.terms-terms.ensures c.if-terms-eq0.true
     c.orders.ensures.0 c.fees_waiting.ensures
 
 pub returns-else-terms-eq0 : goal.returns-else-terms-eq0
 returns-else-terms-eq0 c =
-    none-in-vain c.args.memory.now c.args.i c.args.k c.head_bytes-head.ensures.0 c.args.route c.terms-terms.ensures c.if-terms-eq0.false
+    none_in_vain c.args.memory.now c.args.i c.args.k c.head_bytes-head.ensures.0 c.args.route c.terms-terms.ensures c.if-terms-eq0.false

@@ -1,27 +1,27 @@
 -- `acts::shipment::pair_at` asks 15 and 18, then whether anything is missing.
 use Rattle.money.specs.declared.Money.TheVariants.{K, O}
 use Rattle.memory.proofs.HeadFields.{accepted_within}
-use Rattle.acts.proofs.PairingActs.{no-pairing-at, faults-at, short-at, paired_at}
+use Rattle.acts.proofs.PairingActs.{no_pairing_at, faults_at, short_at, paired_at}
 use Rattle.acts.proofs.Needs.{room_at, rows_waiting}
 use Rattle.acts.proofs.shipment.pair_at.Goals as goal
 
 pub returns-then-not-is_waiting : goal.returns-then-not-is_waiting
 returns-then-not-is_waiting c =
-    no-pairing-at _ _ _ c.requires c.head_bytes-head.ensures.0 c.is_waiting.ensures c.if-not-is_waiting.true
+    no_pairing_at _ _ _ c.requires c.head_bytes-head.ensures.0 c.is_waiting.ensures c.if-not-is_waiting.true
 
 pub may_pair-requires : goal.may_pair-requires
 may_pair-requires c =
     let count = c.orders-n.ensures.0 in
-    let is-head = c.head_bytes-head.ensures.0 in (
+    let is_head = c.head_bytes-head.ensures.0 in (
       c.head_bytes-head.ensures.1,
-      room_at _ c.args.i _ c.requires is-head count,
+      room_at _ c.args.i _ c.requires is_head count,
       c.requires.enough,
-      rows_waiting _ c.args.i _ c.requires is-head count c.is_waiting.ensures c.if-not-is_waiting.false,
+      rows_waiting _ c.args.i _ c.requires is_head count c.is_waiting.ensures c.if-not-is_waiting.false,
     )
 
 pub returns-then-not-may_pair : goal.returns-then-not-may_pair
 returns-then-not-may_pair c =
-    faults-at _ _ _ c.requires c.head_bytes-head.ensures.0 c.is_waiting.ensures c.if-not-is_waiting.false
+    faults_at _ _ _ c.requires c.head_bytes-head.ensures.0 c.is_waiting.ensures c.if-not-is_waiting.false
     c.orders-n.ensures.0 c.may_pair.ensures c.if-not-may_pair.true
 
 pub amounts_in-requires : goal.amounts_in-requires
@@ -42,7 +42,7 @@ fees_accepted-requires c =
 
 pub returns-then-is_short : goal.returns-then-is_short
 returns-then-is_short c =
-    short-at _ _ _ c.requires c.head_bytes-head.ensures.0 c.is_waiting.ensures c.if-not-is_waiting.false
+    short_at _ _ _ c.requires c.head_bytes-head.ensures.0 c.is_waiting.ensures c.if-not-is_waiting.false
     c.orders-n.ensures.0 c.may_pair.ensures c.if-not-may_pair.false
     c.less-amount.ensures c.less-fee.ensures
     c.amounts_in.ensures.0 c.fees_in.ensures.0 c.amounts_accepted.ensures c.fees_accepted.ensures c.is_short.ensures c.if-is_short.true

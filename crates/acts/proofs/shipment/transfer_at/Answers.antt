@@ -5,7 +5,7 @@ use borrow.Author.Tests.{leb-true}
 use Rattle.money.specs.Money.{sum_cap}
 use Rattle.money.proofs.Sums.{grosze_is, money_is}
 use Rattle.memory.proofs.HeadFields.{accepted_within}
-use Rattle.acts.proofs.ShipmentActs.{too-much-at, transferred-at}
+use Rattle.acts.proofs.ShipmentActs.{too_much_at, transferred_at}
 use Rattle.acts.proofs.shipment.transfer_at.Goals as goal
 
 pub accepted-before-requires : goal.accepted-before-requires
@@ -21,7 +21,7 @@ overflow_add-total c =
 pub returns-then-not-is_sum : goal.returns-then-not-is_sum
 returns-then-not-is_sum c =
     rw (← c.money-money.ensures, ← c.grosze-2.ensures)
-    (too-much-at _ _ _ c.requires.0 c.head_bytes.ensures.0 _ _ (c.grosze.ensures ∙ grosze_is _ _ c.accepted-before.ensures) (sym c.is_sum.ensures ∙ c.if-not-is_sum.true))
+    (too_much_at _ _ _ c.requires.0 c.head_bytes.ensures.0 _ _ (c.grosze.ensures ∙ grosze_is _ _ c.accepted-before.ensures) (sym c.is_sum.ensures ∙ c.if-not-is_sum.true))
 
 pub of-requires : goal.of-requires
 of-requires c =
@@ -30,4 +30,4 @@ of-requires c =
 pub returns : goal.returns
 returns c =
     rw (c.store_accepted.ensures, grosze_is _ _ c.of.ensures, money_is _ _ c.of.ensures, ← c.money-money.ensures, ← c.grosze-2.ensures)
-    (transferred-at _ _ _ c.requires.0 c.head_bytes.ensures.0 _ _ (c.grosze.ensures ∙ grosze_is _ _ c.accepted-before.ensures) (sym c.is_sum.ensures ∙ c.if-not-is_sum.false))
+    (transferred_at _ _ _ c.requires.0 c.head_bytes.ensures.0 _ _ (c.grosze.ensures ∙ grosze_is _ _ c.accepted-before.ensures) (sym c.is_sum.ensures ∙ c.if-not-is_sum.false))

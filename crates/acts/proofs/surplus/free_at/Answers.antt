@@ -4,7 +4,7 @@ use native.Mathlib.Omega.{arith}
 use Rattle.money.specs.Money.{sum_of}
 use Rattle.money.proofs.Sums.{grosze_is}
 use Rattle.memory.proofs.HeadFields.{accepted_within, returned_within}
-use Rattle.acts.proofs.SurplusActs.{needed-within, gone-within, free-is}
+use Rattle.acts.proofs.SurplusActs.{needed_within, gone_within, free_is}
 use Rattle.acts.proofs.surplus.free_at.Goals as goal
 
 pub accepted-accepted-requires : goal.accepted-accepted-requires
@@ -17,11 +17,11 @@ returned-returned-requires c =
 
 pub overflow_sub-grosze : goal.overflow_sub-grosze
 overflow_sub-grosze c =
-    needed-within _ _ c.args.k c.requires c.head_bytes-head.ensures.0 c.args.money (c.grosze.ensures ∙ grosze_is _ _ c.accepted-accepted.ensures) (c.grosze-2.ensures ∙ grosze_is _ _ c.need_at-need.ensures)
+    needed_within _ _ c.args.k c.requires c.head_bytes-head.ensures.0 c.args.money (c.grosze.ensures ∙ grosze_is _ _ c.accepted-accepted.ensures) (c.grosze-2.ensures ∙ grosze_is _ _ c.need_at-need.ensures)
 
 pub overflow_sub-grosze-2 : goal.overflow_sub-grosze-2
 overflow_sub-grosze-2 c =
-    gone-within _ _ c.args.k c.requires c.head_bytes-head.ensures.0 c.args.money (c.grosze.ensures ∙ grosze_is _ _ c.accepted-accepted.ensures) (c.grosze-2.ensures ∙ grosze_is _ _ c.need_at-need.ensures) (c.grosze-3.ensures ∙ grosze_is _ _ c.returned-returned.ensures)
+    gone_within _ _ c.args.k c.requires c.head_bytes-head.ensures.0 c.args.money (c.grosze.ensures ∙ grosze_is _ _ c.accepted-accepted.ensures) (c.grosze-2.ensures ∙ grosze_is _ _ c.need_at-need.ensures) (c.grosze-3.ensures ∙ grosze_is _ _ c.returned-returned.ensures)
 
 pub of-requires : goal.of-requires
 of-requires c =
@@ -30,4 +30,4 @@ of-requires c =
 
 pub returns : goal.returns
 returns c =
-    c.of.ensures ∙ ap (sum_of c.args.money) (free-is _ _ _ c.requires c.head_bytes-head.ensures.0 _ (c.grosze.ensures ∙ grosze_is _ _ c.accepted-accepted.ensures) (c.grosze-2.ensures ∙ grosze_is _ _ c.need_at-need.ensures) (c.grosze-3.ensures ∙ grosze_is _ _ c.returned-returned.ensures))
+    c.of.ensures ∙ ap (sum_of c.args.money) (free_is _ _ _ c.requires c.head_bytes-head.ensures.0 _ (c.grosze.ensures ∙ grosze_is _ _ c.accepted-accepted.ensures) (c.grosze-2.ensures ∙ grosze_is _ _ c.need_at-need.ensures) (c.grosze-3.ensures ∙ grosze_is _ _ c.returned-returned.ensures))

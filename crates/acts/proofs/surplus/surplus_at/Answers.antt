@@ -4,12 +4,12 @@ use native.Mathlib.Omega.{arith}
 use Rattle.money.proofs.Sums.{grosze_is, money_is}
 use Rattle.memory.proofs.HeadFields.{returned_within}
 use Rattle.acts.specs.Answers.{returning_of}
-use Rattle.acts.proofs.SurplusActs.{still-waiting-at, no-surplus-at, fits-at, surplus-at}
+use Rattle.acts.proofs.SurplusActs.{still_waiting_at, no_surplus_at, fits_at, surplus-at}
 use Rattle.acts.proofs.surplus.surplus_at.Goals as goal
 
 pub returns-then-is_waiting : goal.returns-then-is_waiting
 returns-then-is_waiting c =
-    still-waiting-at _ _ _ c.requires c.head_bytes-head.ensures.0 _ c.is_waiting.ensures c.if-is_waiting.true
+    still_waiting_at _ _ _ c.requires c.head_bytes-head.ensures.0 _ c.is_waiting.ensures c.if-is_waiting.true
 
 pub returned-before-requires : goal.returned-before-requires
 returned-before-requires c =
@@ -17,16 +17,16 @@ returned-before-requires c =
 
 pub returns-then-grosze-eq0 : goal.returns-then-grosze-eq0
 returns-then-grosze-eq0 c =
-    no-surplus-at _ _ _ c.requires c.head_bytes-head.ensures.0 _ c.is_waiting.ensures c.if-is_waiting.false (c.grosze-grosze.ensures ∙ grosze_is _ _ c.free_at-sum.ensures) c.if-grosze-eq0.true
+    no_surplus_at _ _ _ c.requires c.head_bytes-head.ensures.0 _ c.is_waiting.ensures c.if-is_waiting.false (c.grosze-grosze.ensures ∙ grosze_is _ _ c.free_at-sum.ensures) c.if-grosze-eq0.true
 
 pub overflow_add-grosze : goal.overflow_add-grosze
 overflow_add-grosze c =
-    let within = fits-at _ _ c.args.k c.requires c.head_bytes-head.ensures.0 c.args.money c.is_waiting.ensures c.if-is_waiting.false (c.grosze-grosze.ensures ∙ grosze_is _ _ c.free_at-sum.ensures) (c.grosze.ensures ∙ grosze_is _ _ c.returned-before.ensures) in
+    let within = fits_at _ _ c.args.k c.requires c.head_bytes-head.ensures.0 c.args.money c.is_waiting.ensures c.if-is_waiting.false (c.grosze-grosze.ensures ∙ grosze_is _ _ c.free_at-sum.ensures) (c.grosze.ensures ∙ grosze_is _ _ c.returned-before.ensures) in
     record { fits = omega (arith, within) }
 
 pub of-requires : goal.of-requires
 of-requires c =
-    fits-at _ _ c.args.k c.requires c.head_bytes-head.ensures.0 c.args.money c.is_waiting.ensures c.if-is_waiting.false (c.grosze-grosze.ensures ∙ grosze_is _ _ c.free_at-sum.ensures) (c.grosze.ensures ∙ grosze_is _ _ c.returned-before.ensures)
+    fits_at _ _ c.args.k c.requires c.head_bytes-head.ensures.0 c.args.money c.is_waiting.ensures c.if-is_waiting.false (c.grosze-grosze.ensures ∙ grosze_is _ _ c.free_at-sum.ensures) (c.grosze.ensures ∙ grosze_is _ _ c.returned-before.ensures)
 
 pub returns : goal.returns
 returns c =

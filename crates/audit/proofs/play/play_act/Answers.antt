@@ -1,6 +1,6 @@
 -- `audit::play::play_act` does what the first byte says with the shipment of the identifier.
 use Rattle.book.proofs.Telling.{plays_same}
-use Rattle.audit.proofs.CallOfEntry.{call_known_lem, on_an_order, on-go-ahead, on-pair, on-close, on_return}
+use Rattle.audit.proofs.CallOfEntry.{call_known_lem, on_an_order, on_go_ahead, on_pair, on_close, on_return}
 use Rattle.audit.proofs.JournalLaws.{fields_there}
 use Rattle.book.specs.Numbers.{route_of, money_of}
 use mathlib.Core.Path.{ap, ◌∙◌}
@@ -25,17 +25,17 @@ play_on_order-requires c =
 pub returns-in-2 : goal.returns-in-2
 returns-in-2 c =
     let entry = c.args.entry.now in
-    plays_same (on-go-ahead entry c.entry_text-id.ensures c.in-2.is) c.go_ahead.ensures
+    plays_same (on_go_ahead entry c.entry_text-id.ensures c.in-2.is) c.go_ahead.ensures
 
 pub returns-in-3 : goal.returns-in-3
 returns-in-3 c =
     let entry = c.args.entry.now in
-    plays_same (on-pair entry c.entry_text-id.ensures c.in-3.is) c.pair.ensures
+    plays_same (on_pair entry c.entry_text-id.ensures c.in-3.is) c.pair.ensures
 
 pub returns-in-4 : goal.returns-in-4
 returns-in-4 c =
     let entry = c.args.entry.now in
-    plays_same (on-close entry c.entry_text-id.ensures c.in-4.is) c.close.ensures
+    plays_same (on_close entry c.entry_text-id.ensures c.in-4.is) c.close.ensures
 
 pub returns-in-9 : goal.returns-in-9
 returns-in-9 c =

@@ -1,6 +1,6 @@
 -- `audit::play::play_on_order` does what the first byte says with the order of the number.
 use Rattle.book.proofs.Telling.{plays_same}
-use Rattle.audit.proofs.CallOfEntry.{on_post, on-pay, on-undelivered, on-withdraw}
+use Rattle.audit.proofs.CallOfEntry.{on_post, on_pay, on_undelivered, on_withdraw}
 use Rattle.audit.proofs.JournalLaws.{fields_there}
 use native.Mathlib.Omega.{arith}
 use Rattle.audit.proofs.play.play_on_order.Goals as goal
@@ -17,14 +17,14 @@ returns-in-5 c =
 
 pub returns-in-6 : goal.returns-in-6
 returns-in-6 c =
-    plays_same (on-pay _ c.requires.1 c.entry_number-number.ensures c.in-6.is) c.pay.ensures
+    plays_same (on_pay _ c.requires.1 c.entry_number-number.ensures c.in-6.is) c.pay.ensures
 
 pub returns-in-7 : goal.returns-in-7
 returns-in-7 c =
-    plays_same (on-undelivered _ c.requires.1 c.entry_number-number.ensures c.in-7.is)
+    plays_same (on_undelivered _ c.requires.1 c.entry_number-number.ensures c.in-7.is)
     c.mark_undelivered.ensures
 
 pub returns-in_default : goal.returns-in_default
 returns-in_default c =
-    plays_same (on-withdraw _ c.requires.1 c.entry_number-number.ensures c.requires.2 c.requires.3 (omega arith) (omega arith) (omega arith))
+    plays_same (on_withdraw _ c.requires.1 c.entry_number-number.ensures c.requires.2 c.requires.3 (omega arith) (omega arith) (omega arith))
     c.withdraw.ensures

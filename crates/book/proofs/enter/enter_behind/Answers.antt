@@ -1,5 +1,5 @@
 -- `book::enter::enter_behind` asks 903 and 904, then enters.
-use Rattle.book.proofs.IntakeActs.{no_shipment_left, from-within, no-row-left, fits-behind, entered_behind}
+use Rattle.book.proofs.IntakeActs.{no_shipment_left, from_within, no_row_left, fits_behind, entered_behind}
 use Rattle.sound.proofs.ReadLaws.{sound_parts}
 use native.Mathlib.Omega.{arith}
 use Rattle.book.proofs.enter.enter_behind.Goals as goal
@@ -13,15 +13,15 @@ rows_of-k-requires c =
 
 pub overflow_sub-k : goal.overflow_sub-k
 overflow_sub-k c =
-    from-within _ _ c.args.name c.args.terms c.args.n c.args.faulty c.args.kept.now c.requires.0 c.if-i-ge-MOST_SHIPMENTS.false c.rows_of-k.ensures
+    from_within _ _ c.args.name c.args.terms c.args.n c.args.faulty c.args.kept.now c.requires.0 c.if-i-ge-MOST_SHIPMENTS.false c.rows_of-k.ensures
 
 pub returns-then-k-n : goal.returns-then-k-n
 returns-then-k-n c =
-    no-row-left _ _ _ _ _ _ _ c.requires.0 c.if-i-ge-MOST_SHIPMENTS.false c.rows_of-k.ensures c.requires.1 c.if-k-n.true
+    no_row_left _ _ _ _ _ _ _ c.requires.0 c.if-i-ge-MOST_SHIPMENTS.false c.rows_of-k.ensures c.requires.1 c.if-k-n.true
 
 pub enter-requires : goal.enter-requires
 enter-requires c =
-    fits-behind _ _ _ _ _ c.args.faulty _ c.requires.0 c.if-i-ge-MOST_SHIPMENTS.false c.rows_of-k.ensures c.requires.1 c.if-k-n.false
+    fits_behind _ _ _ _ _ c.args.faulty _ c.requires.0 c.if-i-ge-MOST_SHIPMENTS.false c.rows_of-k.ensures c.requires.1 c.if-k-n.false
 
 pub returns : goal.returns
 returns c =

@@ -1,5 +1,5 @@
 -- `book::enter::take_file` asks the opening and 101, then takes it in.
-use Rattle.book.proofs.IntakeActs.{not_opened, terms-of-name, name_in_form_lem, known_at, taken_at}
+use Rattle.book.proofs.IntakeActs.{not_opened, terms_of_name, name_in_form_lem, known_at, taken_at}
 use Rattle.sound.proofs.ReadLaws.{sound_parts}
 use native.Mathlib.Omega.{arith}
 use Rattle.book.proofs.enter.take_file.Goals as goal
@@ -23,7 +23,7 @@ returns-then-not-is_unknown c =
 
 pub take_in-requires : goal.take_in-requires
 take_in-requires c =
-    (c.requires.0, c.requires.1, c.shipments-i.ensures.0, name_in_form_lem c.args.memory.now c.args.profile c.args.name.now c.args.file.now c.requires.0 c.requires.1 c.open-opening.ensures c.in_default.is, terms-of-name c.args.memory.now c.args.profile c.args.name.now c.args.file.now c.requires.0 c.requires.1 c.open-opening.ensures c.in_default.is)
+    (c.requires.0, c.requires.1, c.shipments-i.ensures.0, name_in_form_lem c.args.memory.now c.args.profile c.args.name.now c.args.file.now c.requires.0 c.requires.1 c.open-opening.ensures c.in_default.is, terms_of_name c.args.memory.now c.args.profile c.args.name.now c.args.file.now c.requires.0 c.requires.1 c.open-opening.ensures c.in_default.is)
 
 pub returns : goal.returns
 returns c =

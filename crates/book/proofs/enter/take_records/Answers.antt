@@ -3,7 +3,7 @@ use mathlib.Core.Path.{◌≡◌, refl, sym, ap, ◌∙◌}
 use Rattle.epe.specs.Profile.{terms_for}
 use Rattle.contents.specs.Steps.{records_of}
 use Rattle.contents.specs.declared.stated.Stated.{Stated}
-use Rattle.book.proofs.IntakeActs.{stated_as_set, stated_fit, opened, counted, contents-accepted, records-refused}
+use Rattle.book.proofs.IntakeActs.{stated_as_set, stated_fit, opened, counted, contents_accepted, records_refused}
 use Rattle.book.proofs.enter.take_records.Goals as goal
 use Rattle.book.proofs.enter.take_records.Goals.{Start}
 
@@ -21,8 +21,8 @@ enter_behind-requires c =
 
 pub returns-in-Accepted : goal.returns-in-Accepted
 returns-in-Accepted c =
-    contents-accepted _ _ c.args.profile c.args.name c.args.file.now c.requires.0 c.requires.1 c.requires.2 c.requires.3 c.requires.4 (is_terms (goal.at.returns-in-Accepted c).Start) (ap (λ (stated : Stated). stated.verdict) (sym c.requires.5) ∙ c.requires.6) (c.judge_records.ensures ∙ ap (λ (stated : Stated). records_of c.args.profile.fields stated.count stated.sum stated.terms c.args.file.now) c.requires.5) c.in-Accepted.is c.enter_behind.ensures
+    contents_accepted _ _ c.args.profile c.args.name c.args.file.now c.requires.0 c.requires.1 c.requires.2 c.requires.3 c.requires.4 (is_terms (goal.at.returns-in-Accepted c).Start) (ap (λ (stated : Stated). stated.verdict) (sym c.requires.5) ∙ c.requires.6) (c.judge_records.ensures ∙ ap (λ (stated : Stated). records_of c.args.profile.fields stated.count stated.sum stated.terms c.args.file.now) c.requires.5) c.in-Accepted.is c.enter_behind.ensures
 
 pub returns-in-Refused : goal.returns-in-Refused
 returns-in-Refused c =
-    records-refused _ _ c.args.profile c.args.name c.args.file.now c.requires.0 c.requires.1 c.requires.2 c.requires.3 c.requires.4 (is_terms (goal.at.returns-in-Refused c).Start) (ap (λ (stated : Stated). stated.verdict) (sym c.requires.5) ∙ c.requires.6) (c.judge_records.ensures ∙ ap (λ (stated : Stated). records_of c.args.profile.fields stated.count stated.sum stated.terms c.args.file.now) c.requires.5) c.in-Refused.is
+    records_refused _ _ c.args.profile c.args.name c.args.file.now c.requires.0 c.requires.1 c.requires.2 c.requires.3 c.requires.4 (is_terms (goal.at.returns-in-Refused c).Start) (ap (λ (stated : Stated). stated.verdict) (sym c.requires.5) ∙ c.requires.6) (c.judge_records.ensures ∙ ap (λ (stated : Stated). records_of c.args.profile.fields stated.count stated.sum stated.terms c.args.file.now) c.requires.5) c.in-Refused.is

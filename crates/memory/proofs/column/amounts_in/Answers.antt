@@ -2,7 +2,7 @@
 use mathlib.Core.Path.{ap}
 use Rattle.money.specs.Money.{amount}
 use Rattle.money.specs.declared.Amount.{Amount}
-use Rattle.memory.proofs.Columns.{adding_begun, adding_on, adding_done, adding-within}
+use Rattle.memory.proofs.Columns.{adding_begun, adding_on, adding_done, adding_within}
 use borrow.Author.Rules.{rules}
 use Rattle.memory.proofs.column.amounts_in.Goals as goal
 
@@ -16,4 +16,4 @@ loop-left-preserved c =
 pub returns : goal.returns
 returns c =
     let loop = c.loop-left.invariant in
-    (ap amount (adding_done loop c.loop-left-test.false), adding-within loop (search rules))
+    (ap amount (adding_done loop c.loop-left-test.false), adding_within loop (search rules))

@@ -1,6 +1,6 @@
 -- `memory::wait::store_return` stores the byte that a return leaves.
 use native.Mathlib.Omega.{arith}
-use Rattle.memory.proofs.ReturnLaws.{taken_few, taken_within, row-returned}
+use Rattle.memory.proofs.ReturnLaws.{taken_few, taken_within, row_returned}
 use Rattle.memory.proofs.wait.store_return.Goals as goal
 
 pub overflow_sub-code : goal.overflow_sub-code
@@ -14,6 +14,6 @@ overflow_cast-result c =
 pub returns : goal.returns
 returns c = (
   λ route money is.
-      rw c.store_code.ensures (row-returned route money _ is _ c.code-code.ensures.2 _ _ c.requires.0 c.requires.1 c.code-code.ensures.0),
+      rw c.store_code.ensures (row_returned route money _ is _ c.code-code.ensures.2 _ _ c.requires.0 c.requires.1 c.code-code.ensures.0),
   taken_few _ _ _ c.requires.2.is _ c.code-code.ensures.2,
 )

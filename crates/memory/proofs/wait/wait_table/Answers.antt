@@ -1,6 +1,6 @@
 -- `memory::wait::wait_table` tells one byte after the other.
 use mathlib.Core.Path.{refl}
-use Rattle.memory.proofs.ReturnLaws.{told_none, told_more, told-all}
+use Rattle.memory.proofs.ReturnLaws.{told_none, told_more, told_all}
 use borrow.Author.Rules.{rules}
 use Rattle.memory.proofs.wait.wait_table.Goals as goal
 
@@ -11,4 +11,4 @@ pub loop-code-preserved : goal.loop-code-preserved
 loop-code-preserved c = told_more c.loop-code.invariant (search rules) c.wait_in.ensures
 
 pub returns : goal.returns
-returns c = told-all c.loop-code.invariant (search rules)
+returns c = told_all c.loop-code.invariant (search rules)

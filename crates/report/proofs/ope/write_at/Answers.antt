@@ -14,15 +14,15 @@ write_on-requires c =
     let given = c.args in
     let sits = c.requires in
     let room = sits.room in
-    let is-count = c.orders.ensures.0 ∙ ap order_count_in c.head_bytes-head.ensures.0 in
-    let is-source = c.first-source.ensures ∙ ap text_of_ident (c.ident-ident.ensures ∙ ap (λ (h : List _). (name_in h).ident) c.head_bytes-head.ensures.0) in
-    (omega arith, sits.enough, ope_source (shipment_at given.book.now given.i given.k) sits.sound is-source)
+    let is_count = c.orders.ensures.0 ∙ ap order_count_in c.head_bytes-head.ensures.0 in
+    let is_source = c.first-source.ensures ∙ ap text_of_ident (c.ident-ident.ensures ∙ ap (λ (h : List _). (name_in h).ident) c.head_bytes-head.ensures.0) in
+    (omega arith, sits.enough, ope_source (shipment_at given.book.now given.i given.k) sits.sound is_source)
 
 pub returns : goal.returns
 unfolding shipment_in
 returns c =
     let given = c.args in
-    let is-count = c.orders.ensures.0 ∙ ap order_count_in c.head_bytes-head.ensures.0 in
-    let is-source = c.first-source.ensures ∙ ap text_of_ident (c.ident-ident.ensures ∙ ap (λ (h : List _). (name_in h).ident) c.head_bytes-head.ensures.0) in
+    let is_count = c.orders.ensures.0 ∙ ap order_count_in c.head_bytes-head.ensures.0 in
+    let is_source = c.first-source.ensures ∙ ap text_of_ident (c.ident-ident.ensures ∙ ap (λ (h : List _). (name_in h).ident) c.head_bytes-head.ensures.0) in
     c.write_on.ensures
-    ∙ ope_there given.book.now given.i given.k given.own.now given.created given.codes.now given.output.now is-source is-count
+    ∙ ope_there given.book.now given.i given.k given.own.now given.created given.codes.now given.output.now is_source is_count

@@ -51,15 +51,15 @@ sum-fees-requires c =
 pub overflow_add-parts-4 : goal.overflow_add-parts-4
 overflow_add-parts-4 c =
     let most = holding_most (row_of (row_bytes c.args.memory.now c.args.k)) c.holding-holding.ensures in
-    let amount-small = c.amount-amount.ensures.1 in
-    let fee-small = c.fee-fee.ensures.1 in
+    let amount_small = c.amount-amount.ensures.1 in
+    let fee_small = c.fee-fee.ensures.1 in
     record { fits = with_part_fits _ _ _ c.requires.3.fees_held (search rules) (omega (arith, most)) }
 
 pub sum-fees_held-requires : goal.sum-fees_held-requires
 sum-fees_held-requires c =
     let most = holding_most (row_of (row_bytes c.args.memory.now c.args.k)) c.holding-holding.ensures in
-    let amount-small = c.amount-amount.ensures.1 in
-    let fee-small = c.fee-fee.ensures.1 in
+    let amount_small = c.amount-amount.ensures.1 in
+    let fee_small = c.fee-fee.ensures.1 in
     with_part_within _ _ _ c.requires.3.fees_held (search rules) (omega (arith, most))
 
 pub returns : goal.returns

@@ -2,7 +2,7 @@
 use mathlib.Core.Path.{sym, ◌∙◌}
 use Rattle.memory.proofs.HeadFields.{orders_are}
 use Rattle.sheet.proofs.Standing.{sits_here}
-use Rattle.sheet.proofs.Totalling.{cap_within, above_already, summing_begun, row_low, above-here, summing_on, all-summed}
+use Rattle.sheet.proofs.Totalling.{cap_within, above_already, summing_begun, row_low, above_here, summing_on, all_summed}
 use borrow.Author.Rules.{rules}
 use Rattle.sheet.proofs.total.add.Goals as goal
 
@@ -22,7 +22,7 @@ can_add-requires c =
 
 pub returns-then-not-can_add : goal.returns-then-not-can_add
 returns-then-not-can_add c =
-    above-here c.loop-left.invariant (search rules) c.row_at-row.ensures (sym c.can_add.ensures ∙ c.if-not-can_add.true)
+    above_here c.loop-left.invariant (search rules) c.row_at-row.ensures (sym c.can_add.ensures ∙ c.if-not-can_add.true)
 
 pub plus-sums-requires : goal.plus-sums-requires
 plus-sums-requires c = cap_within _ (sym c.can_add.ensures ∙ c.if-not-can_add.false)
@@ -39,4 +39,4 @@ loop-left-preserved c =
     summing_on turn.invariant (search rules) c.row_at-row.ensures (sym c.can_add.ensures ∙ c.if-not-can_add.false) c.plus-sums.ensures counted
 
 pub returns : goal.returns
-returns c = all-summed c.loop-left.invariant (search rules)
+returns c = all_summed c.loop-left.invariant (search rules)

@@ -2,7 +2,7 @@
 use mathlib.Core.Path.{ap}
 use lib.Dec.{ltb}
 use Rattle.fee.specs.Fee.{rate_cap}
-use Rattle.sound.proofs.Tallying.{asking_begun, asking-on, asking-done}
+use Rattle.sound.proofs.Tallying.{asking_begun, asking_on, asking_done}
 use Rattle.sound.proofs.charges.are_remainders.Goals as goal
 
 pub loop-left-init : goal.loop-left-init
@@ -10,7 +10,7 @@ loop-left-init c = asking_begun
 
 pub loop-left-preserved : goal.loop-left-preserved
 loop-left-preserved c =
-    asking-on c.loop-left.invariant c.loop-left-test.true (ap (λ r. ltb r rate_cap) c.remainder.ensures.0)
+    asking_on c.loop-left.invariant c.loop-left-test.true (ap (λ r. ltb r rate_cap) c.remainder.ensures.0)
 
 pub returns : goal.returns
-returns c = asking-done c.loop-left.invariant c.loop-left-test.false
+returns c = asking_done c.loop-left.invariant c.loop-left-test.false

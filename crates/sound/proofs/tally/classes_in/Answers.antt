@@ -1,5 +1,5 @@
 -- `sound::tally::classes_in` joins class after class.
-use Rattle.sound.proofs.Tallying.{joining_begun, joining-on, joining-done}
+use Rattle.sound.proofs.Tallying.{joining_begun, joining_on, joining_done}
 use Rattle.sound.proofs.tally.classes_in.Goals as goal
 
 pub loop-left-init : goal.loop-left-init
@@ -7,7 +7,7 @@ loop-left-init c = joining_begun
 
 pub loop-left-preserved : goal.loop-left-preserved
 loop-left-preserved c =
-    joining-on c.loop-left.invariant c.loop-left-test.true c.class-classes.ensures
+    joining_on c.loop-left.invariant c.loop-left-test.true c.class-classes.ensures
 
 pub returns : goal.returns
-returns c = joining-done c.loop-left.invariant c.loop-left-test.false
+returns c = joining_done c.loop-left.invariant c.loop-left-test.false

@@ -12,7 +12,7 @@ use Rattle.store.proofs.load.unpack_body.Goals as goal
 pub unpack_orders-requires : goal.unpack_orders-requires
 unpack_orders-requires c =
     let head = part_there c.args.stored.now c.args.at head_size (omega (arith, c.requires.2)) in
-    let is-count = c.orders-n.ensures.0 ∙ ap order_count_in head.0 in
+    let is_count = c.orders-n.ensures.0 ∙ ap order_count_in head.0 in
     let put = c.put_head.ensures.output_after in
     let as_long = put_length (head_at c.args.i) (head_from c.args.stored.now c.args.at) c.args.memory.now (omega (arith, c.requires.0, c.requires.1, rw head.0 at head.1)) in
     (omega (arith, c.requires.3), rw (put, head.0, as_long) c.requires.1, omega (arith, c.requires.2))

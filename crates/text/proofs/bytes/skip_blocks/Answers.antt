@@ -2,7 +2,7 @@
 use mathlib.Core.Path.{refl, sym, ◌∙◌}
 use Prim.Native.Nat.{◌+◌}
 use native.Mathlib.Omega.{arith}
-use Rattle.text.proofs.Finding.{skip-part}
+use Rattle.text.proofs.Finding.{skip_part}
 use Rattle.text.proofs.bytes.skip_blocks.Goals as goal
 
 pub loop-i-init : goal.loop-i-init
@@ -15,7 +15,7 @@ pub loop-i-preserved : goal.loop-i-preserved
 loop-i-preserved c =
     let i = c.loop-i.i in (
       omega arith,
-      skip-part c.args.b c.args.s.now i (i + 32) (omega arith) (omega arith) (sym c.has_byte.ensures ∙ c.if-has_byte.false)
+      skip_part c.args.b c.args.s.now i (i + 32) (omega arith) (omega arith) (sym c.has_byte.ensures ∙ c.if-has_byte.false)
           ∙ c.loop-i.invariant.1,
     )
 

@@ -3,14 +3,14 @@ use mathlib.Core.Path.{sym, ◌∙◌}
 use Prim.Native.Nat.{◌+◌, ◌<◌}
 use native.Mathlib.Omega.{arith}
 use lib.ListN.{length}
-use Rattle.text.proofs.Finding.{find-stands}
+use Rattle.text.proofs.Finding.{find_stands}
 use Rattle.text.proofs.LineEnds.{stop_from_cr, stop_here, stop_on, stop_end}
 use Rattle.text.proofs.lines.line_end.Goals as goal
 
 pub loop-i-init : goal.loop-i-init
 loop-i-init c =
     let start = c.args in
-    rw c.find-i.ensures (stop_from_cr start.s.now start.from, find-stands 13 start.s.now start.from)
+    rw c.find-i.ensures (stop_from_cr start.s.now start.from, find_stands 13 start.s.now start.from)
 
 pub returns-then-byte_at-eq-LF : goal.returns-then-byte_at-eq-LF
 returns-then-byte_at-eq-LF c =
@@ -33,7 +33,7 @@ loop-i-preserved c =
     let s = c.args.s.now in
     let i = c.loop-i.i in
     let passed = stop_on s i (omega arith) (λ e. c.if-byte_at-eq-LF.false (c.byte_at.ensures ∙ e)) in
-    rw c.find-i-in-loop-i.ensures (omega (arith, c.loop-i.invariant.0, passed, stop_from_cr s (i + 1)), find-stands 13 s (i + 1))
+    rw c.find-i-in-loop-i.ensures (omega (arith, c.loop-i.invariant.0, passed, stop_from_cr s (i + 1)), find_stands 13 s (i + 1))
 
 pub returns : goal.returns
 returns c =
