@@ -52,8 +52,8 @@ fn are_around(
     places: &[usize],
     held: usize,
 ) -> bool
-    requires cut_of { CutOf before.now table.now count }
-    requires cut_of_2 { CutOf after.now places.now held }
+    requires before_cut { CutOf before.now table.now count }
+    requires after_cut { CutOf after.now places.now held }
     ensures { result ≡ around before.now after.now }
 {
     are_ended(before, table, count, BEFORE)
@@ -64,7 +64,7 @@ fn are_around(
 // Is a text n fields, each ended by a bar?
 fn are_ended(s: &[u8], table: &[usize], count: usize, n: u64) -> bool
     requires cut_of { CutOf s.now table.now count }
-    requires n_bound { n ≤ 31 }
+    requires few_fields { n ≤ 31 }
     ensures { result ≡ are_ended n s.now }
 {
     has_fields(s, table, count, n + 1) && is_empty(field_of(s, table, count, n as usize + 1))
@@ -73,7 +73,7 @@ fn are_ended(s: &[u8], table: &[usize], count: usize, n: u64) -> bool
 // Is a text low to high fields, each begun by a bar?
 fn are_begun(s: &[u8], table: &[usize], count: usize, low: usize, high: usize) -> bool
     requires cut_of { CutOf s.now table.now count }
-    requires high_bound { high ≤ 31 }
+    requires few_bars { high ≤ 31 }
     ensures { result ≡ are_begun low high s.now }
 {
     has_bars(s, table, count, low, high) && is_empty(field_of(s, table, count, 1))
@@ -82,7 +82,7 @@ fn are_begun(s: &[u8], table: &[usize], count: usize, low: usize, high: usize) -
 // Has a text from low to high bars?
 fn has_bars(s: &[u8], table: &[usize], count: usize, low: usize, high: usize) -> bool
     requires cut_of { CutOf s.now table.now count }
-    requires high_bound { high ≤ 31 }
+    requires few_bars { high ≤ 31 }
     ensures { result ≡ between (low + 1) (high + 1) (length (fields 0x7C s.now)) }
 {
     low <= count && count <= high

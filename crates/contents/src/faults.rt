@@ -56,9 +56,9 @@ pub fn first_fault(
     held: usize,
     shift: usize,
 ) -> u64
-    requires cut_of { CutOf front.now table.now count }
-    requires cut_of_2 { CutOf back.now places.now held }
-    requires shift_bound { shift ≤ 11 }
+    requires front_cut { CutOf front.now table.now count }
+    requires back_cut { CutOf back.now places.now held }
+    requires shift_within { shift ≤ 11 }
     ensures { result ≡ first_fault (fault_questions (field_of_two front.now back.now shift) said) }
 {
     if !has_size(front, table, count, 4, 1, 31) {
@@ -79,7 +79,7 @@ pub fn first_fault(
 // Is field n from low to high code points long?
 fn has_size(line: &[u8], table: &[usize], count: usize, n: usize, low: usize, high: usize) -> bool
     requires cut_of { CutOf line.now table.now count }
-    requires le_n { (1 ≤ n) × (n ≤ 32) }
+    requires field_number { (1 ≤ n) × (n ≤ 32) }
     ensures { result ≡ sized low high (field n line.now) }
 {
     is_sized(field_of(line, table, count, n), low, high)
@@ -104,9 +104,9 @@ fn address_fault(
     held: usize,
     shift: usize,
 ) -> u64
-    requires cut_of { CutOf front.now table.now count }
-    requires cut_of_2 { CutOf back.now places.now held }
-    requires shift_bound { shift ≤ 11 }
+    requires front_cut { CutOf front.now table.now count }
+    requires back_cut { CutOf back.now places.now held }
+    requires shift_within { shift ≤ 11 }
     ensures { result ≡ first_fault (drop 4 (fault_questions (field_of_two front.now back.now shift) said)) }
 {
     if !has_place(front, table, count, said.empty) {
@@ -180,9 +180,9 @@ fn benefit_fault(
     held: usize,
     shift: usize,
 ) -> u64
-    requires cut_of { CutOf front.now table.now count }
-    requires cut_of_2 { CutOf back.now places.now held }
-    requires shift_bound { shift ≤ 11 }
+    requires front_cut { CutOf front.now table.now count }
+    requires back_cut { CutOf back.now places.now held }
+    requires shift_within { shift ≤ 11 }
     ensures { result ≡ first_fault (drop 7 (fault_questions (field_of_two front.now back.now shift) said)) }
 {
     if !has_size(back, places, held, 14 - shift, 1, 20) {
@@ -208,9 +208,9 @@ fn have_no_spaces(
     held: usize,
     shift: usize,
 ) -> bool
-    requires cut_of { CutOf front.now table.now count }
-    requires cut_of_2 { CutOf back.now places.now held }
-    requires shift_bound { shift ≤ 11 }
+    requires front_cut { CutOf front.now table.now count }
+    requires back_cut { CutOf back.now places.now held }
+    requires shift_within { shift ≤ 11 }
     ensures { result ≡ (unspaced 8 4 (field_of_two front.now back.now shift) && (not spaced && unspaced 7 13 (field_of_two front.now back.now shift))) }
 {
     are_unspaced(front, table, count, 4, 8)
@@ -220,7 +220,7 @@ fn have_no_spaces(
 // Do none of n fields from one on start or end with a space?
 fn are_unspaced(line: &[u8], table: &[usize], count: usize, from: usize, n: usize) -> bool
     requires cut_of { CutOf line.now table.now count }
-    requires le_from { (1 ≤ from) × (from + n ≤ 33) }
+    requires field_numbers { (1 ≤ from) × (from + n ≤ 33) }
     ensures { result ≡ unspaced n from (λ k. field k line.now) }
 {
     let mut at = from;

@@ -65,7 +65,7 @@ fn is_header(line: &[u8], table: &[usize], count: usize) -> bool
 // Does field n have just these bytes?
 fn field_is(line: &[u8], table: &[usize], count: usize, n: usize, wanted: &[u8]) -> bool
     requires cut_of { CutOf line.now table.now count }
-    requires le_n { (1 ≤ n) × (n ≤ 32) }
+    requires field_number { (1 ≤ n) × (n ≤ 32) }
     ensures { result ≡ same (field n line.now) wanted.now }
 {
     equal(field_of(line, table, count, n), wanted)
@@ -127,8 +127,8 @@ fn is_dated(s: &[u8], date: &[u8]) -> bool
 // Does field n repeat part k of the name?
 fn repeats(name: &[u8], k: usize, line: &[u8], table: &[usize], count: usize, n: usize) -> bool
     requires cut_of { CutOf line.now table.now count }
-    requires le_n { (1 ≤ n) × (n ≤ 32) }
-    requires le_k { (1 ≤ k) × (k ≤ 4) }
+    requires field_number { (1 ≤ n) × (n ≤ 32) }
+    requires part_number { (1 ≤ k) × (k ≤ 4) }
     ensures { result ≡ same (field n line.now) (name_part k name.now) }
 {
     field_is(line, table, count, n, name_part(name, k))

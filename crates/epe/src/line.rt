@@ -10,7 +10,7 @@ pub const BAR: u8 = b'|';
 // Field n of a line, counted from 1.
 pub fn field_of<'a, 'b>(line: &'a [u8], table: &'b [usize], count: usize, n: usize) -> &'a [u8]
     requires cut_of { CutOf line.now table.now count }
-    requires le_n { (1 ≤ n) × (n ≤ 32) }
+    requires field_number { (1 ≤ n) × (n ≤ 32) }
     ensures { result.now ≡ field n line.now }
 {
     text::fields::field(line, table, count, n - 1)
@@ -19,7 +19,7 @@ pub fn field_of<'a, 'b>(line: &'a [u8], table: &'b [usize], count: usize, n: usi
 // Has a line just so many fields?
 pub fn has_fields(line: &[u8], table: &[usize], count: usize, n: u64) -> bool
     requires cut_of { CutOf line.now table.now count }
-    requires n_bound { n ≤ 32 }
+    requires few_fields { n ≤ 32 }
     ensures { result ≡ eqb (length (fields 0x7C line.now)) n }
 {
     count as u64 + 1 == n

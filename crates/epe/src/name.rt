@@ -127,7 +127,7 @@ fn has_parts(name: &[u8], table: &[usize], count: usize) -> bool
 // Part n of a name, counted from 1.
 pub fn part_of<'a, 'b>(name: &'a [u8], table: &'b [usize], count: usize, n: usize) -> &'a [u8]
     requires parts_cut { PartsCut name.now table.now count }
-    requires le_n { (1 ≤ n) × (n ≤ 4) }
+    requires part_number { (1 ≤ n) × (n ≤ 4) }
     ensures { result.now ≡ name_part n name.now }
 {
     field(name, table, count, n - 1)

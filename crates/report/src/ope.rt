@@ -147,8 +147,8 @@ fn put_ope(
     n: usize,
     codes: &[u64],
 )
-    requires n_bound { (k + n ≤ most_rows) × (size ≤ length memory.now) }
-    requires n_in_bounds { length (ope_text own.now created source.now count (records_in codes.now (rows_from memory.now k n))) ≤ length output.old }
+    requires rows_there { (k + n ≤ most_rows) × (size ≤ length memory.now) }
+    requires room { length (ope_text own.now created source.now count (records_in codes.now (rows_from memory.now k n))) ≤ length output.old }
     ensures { output.new ≡ written (ope_text own.now created source.now count (records_in codes.now (rows_from memory.now k n))) output.old }
 {
     let at = put_opening(output, &START, own, created, source);
@@ -239,8 +239,8 @@ fn entry_of(fault: u64) -> u64
 
 // Puts the records of the faulty ones of the n orders from row k on behind a header.
 fn put_records(output: &mut [u8], at: usize, memory: &[u8], k: usize, n: usize, codes: &[u64])
-    requires n_bound { (k + n ≤ most_rows) × (size ≤ length memory.now) }
-    requires n_in_bounds { at + length (behind_header (ope_records codes.now 1 (faulty_from 1 (rows_from memory.now k n)))) ≤ length output.old }
+    requires rows_there { (k + n ≤ most_rows) × (size ≤ length memory.now) }
+    requires room { at + length (behind_header (ope_records codes.now 1 (faulty_from 1 (rows_from memory.now k n)))) ≤ length output.old }
     ensures { output.new ≡ put_at at (behind_header (ope_records codes.now 1 (faulty_from 1 (rows_from memory.now k n)))) output.old }
 {
     let mut put = Put { at, running: 1 };

@@ -92,7 +92,7 @@ pub fn put_number_field(output: &mut [u8], at: usize, n: u64) -> usize
 // How many digits a number has. Most have few, and are asked for no division.
 pub fn places_of(n: u64) -> usize
     ensures value { result ≡ places_of n }
-    ensures upper_bound { result ≤ 20 }
+    ensures at_most { result ≤ 20 }
 {
     if n < 10 {
         return 1;
@@ -122,7 +122,7 @@ fn put_byte(output: &mut [u8], at: usize, byte: u8) -> usize
 // How many digits a number has, counted one by one.
 fn count_places(n: u64) -> usize
     ensures value { result ≡ places_of n }
-    ensures upper_bound { result ≤ 20 }
+    ensures at_most { result ≤ 20 }
 {
     let mut places = 1;
     let mut rest = n;

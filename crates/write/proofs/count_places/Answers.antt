@@ -25,4 +25,4 @@ returns c =
     let last = one_place end.rest (omega arith) in
     let most = word_places c.args.n (omega arith) in
     let counted = end.invariant.1 in
-    record { value = omega arith; upper_bound = omega arith }
+    record { value = omega arith; at_most = omega arith }

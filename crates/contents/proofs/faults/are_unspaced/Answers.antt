@@ -9,7 +9,7 @@ pub loop-left-init : goal.loop-left-init
 loop-left-init c = (omega arith, refl, refl)
 
 pub field_of-requires : goal.field_of-requires
-field_of-requires c = record { cut_of = c.requires.cut_of; le_n = omega arith }
+field_of-requires c = record { cut_of = c.requires.cut_of; field_number = omega arith }
 
 pub returns-then-is_spaced : goal.returns-then-is_spaced
 returns-then-is_spaced c =

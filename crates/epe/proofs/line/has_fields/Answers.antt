@@ -7,4 +7,4 @@ pub overflow_add-result : goal.overflow_add-result
 overflow_add-result c = omega (arith, count_at_most c.requires.cut_of)
 
 pub returns : goal.returns
-returns c = fields_by_cut c.requires.cut_of c.args.n c.requires.n_bound
+returns c = fields_by_cut c.requires.cut_of c.args.n c.requires.few_fields

@@ -13,28 +13,28 @@ unfolding start_text
 put_opening-at-requires c =
     let given = c.args in
     let records = records_in given.codes.now (rows_from given.memory.now given.k given.n) in
-    ope_opening_fits given.own.now given.created given.source.now given.count records given.output.now c.requires.n_in_bounds
+    ope_opening_fits given.own.now given.created given.source.now given.count records given.output.now c.requires.room
 
 pub put_number-at-requires : goal.put_number-at-requires
 unfolding start_text
 put_number-at-requires c =
     let given = c.args in
     let records = records_in given.codes.now (rows_from given.memory.now given.k given.n) in
-    piece_fits (spelled given.count) records (ope_left given.own.now given.created given.source.now given.count records given.output.now c.requires.n_in_bounds c.put_opening-at.ensures.value c.put_opening-at.ensures.output_after)
+    piece_fits (spelled given.count) records (ope_left given.own.now given.created given.source.now given.count records given.output.now c.requires.room c.put_opening-at.ensures.value c.put_opening-at.ensures.output_after)
 
 pub put_records-requires : goal.put_records-requires
 unfolding start_text
 put_records-requires c =
     let given = c.args in
     let records = records_in given.codes.now (rows_from given.memory.now given.k given.n) in
-    let left = ope_left given.own.now given.created given.source.now given.count records given.output.now c.requires.n_in_bounds c.put_opening-at.ensures.value c.put_opening-at.ensures.output_after in
-    record { n_bound = c.requires.n_bound; n_in_bounds = last_fits records (piece_put (spelled given.count) records left c.put_number-at.ensures.value c.put_number-at.ensures.output_after) }
+    let left = ope_left given.own.now given.created given.source.now given.count records given.output.now c.requires.room c.put_opening-at.ensures.value c.put_opening-at.ensures.output_after in
+    record { rows_there = c.requires.rows_there; room = last_fits records (piece_put (spelled given.count) records left c.put_number-at.ensures.value c.put_number-at.ensures.output_after) }
 
 pub returns : goal.returns
 unfolding start_text
 returns c =
     let given = c.args in
     let records = records_in given.codes.now (rows_from given.memory.now given.k given.n) in
-    let left = ope_left given.own.now given.created given.source.now given.count records given.output.now c.requires.n_in_bounds c.put_opening-at.ensures.value c.put_opening-at.ensures.output_after in
+    let left = ope_left given.own.now given.created given.source.now given.count records given.output.now c.requires.room c.put_opening-at.ensures.value c.put_opening-at.ensures.output_after in
     let last = piece_put (spelled given.count) records left c.put_number-at.ensures.value c.put_number-at.ensures.output_after in
     c.put_records.ensures ∙ last.makes ∙ put_first (ope_text given.own.now given.created given.source.now given.count records) given.output.now

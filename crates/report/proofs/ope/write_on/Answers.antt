@@ -49,7 +49,7 @@ put_ope-requires c =
     let measured = ope_measured given.own.now given.created given.codes.now given.source.now rows c.faults_in-found.ensures.0 in
     let same = ap (λ (t : List ℕ). length t) (ope_found given.own.now given.created given.codes.now given.source.now rows c.faults_in-found.ensures.0) in
     let asked = c.ope_length-length.ensures in
-    record { n_bound = (c.requires.0, c.requires.1); n_in_bounds = omega arith }
+    record { rows_there = (c.requires.0, c.requires.1); room = omega arith }
 
 pub returns : goal.returns
 unfolding ope_on
