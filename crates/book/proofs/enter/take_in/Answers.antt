@@ -8,4 +8,4 @@ use Rattle.book.proofs.enter.take_in.Goals as goal
 pub returns-in-Refused : goal.returns-in-Refused
 returns-in-Refused c =
     contents_refused _ _ c.args.profile c.args.name c.args.file.now c.requires.0 c.requires.1 c.requires.2 c.requires.3 c.requires.4 refl
-    (two_steps_are_contents.first_refuses _ _ _ (ap (λ (c : Stated). c.verdict) (sym c.judge_stated-stated.ensures) ∙ c.in-Refused.is))
+    (two_steps_are_contents.first_refuses _ _ _ (ap (λ (stated : Stated). stated.verdict) (sym c.judge_stated-stated.ensures) ∙ c.in-Refused.is))

@@ -1,13 +1,12 @@
 -- `contents::tally::tally_records` tallies and keeps the lines passed; with those that are left they give the whole.
 use mathlib.Core.Path.{refl}
-use Prim.Native.Nat.{◌<◌}
 use borrow.Author.Tests.{not-true, not-false}
 use native.Mathlib.Omega.{arith}
 use Rattle.epe.specs.Inner.Walk.{lines_from}
-use Rattle.contents.proofs.TallyWalk.{Going, going_start, going_end, Turn, turn_of, tallied_misshaped}
+use Rattle.contents.proofs.TallyWalk.{going_start, going_end, Turn, turn_of, tallied_misshaped}
 use Rattle.epe.proofs.LineWalk.{walked_out}
 use Rattle.contents.proofs.tally.tally_records.Goals as goal
-use Rattle.contents.proofs.tally.tally_records.Goals.{After-after_line-at, After-read_record-read}
+use Rattle.contents.proofs.tally.tally_records.Goals.{After-read_record-read}
 
 turn : (c : After-read_record-read)
     → let start = c.args in
@@ -18,18 +17,6 @@ turn c =
     let here = c.loop-at in
     turn_of _ _ _ _ here.at here.tally _ _ c.read_record-read.result _ _ (omega arith) (omega arith) here.invariant c.line_end-end.ensures
     c.slice.ensures c.read_record-read.ensures
-
-on : (c : After-after_line-at)
-    → let start = c.args in
-    Going start.fields start.terms (lines_from start.from start.s.now) (lines_from c.after_line-at.result start.s.now) c.with_order-tally.result
-    start.kept.now c.keep.new.kept
-    × (c.loop-at.at < c.after_line-at.result)
-on c =
-    let here = c.loop-at in
-    let this =
-    turn_of _ _ _ _ here.at here.tally _ _ c.read_record-read.result _ _ (omega arith) (omega arith) here.invariant c.line_end-end.ensures
-    c.slice.ensures c.read_record-read.ensures in
-    this.on _ _ _ (not-false _ c.if-not-read.false) c.with_order-tally.ensures c.keep.ensures c.after_line-at.ensures
 
 pub loop-at-init : goal.loop-at-init
 loop-at-init c = going_start c.args.fields _ _ _ _ refl
@@ -51,10 +38,14 @@ with_order-tally-requires c =
     ((turn (goal.at.with_order-tally-requires c).After-read_record-read).small, c.requires.1)
 
 pub loop-at-smaller : goal.loop-at-smaller
-loop-at-smaller c = omega (arith, (on (goal.at.loop-at-smaller c).After-after_line-at).1)
+loop-at-smaller c =
+    let this = turn (goal.at.loop-at-smaller c).After-read_record-read in
+    omega (arith, (this.on _ _ _ (not-false _ c.if-not-read.false) c.with_order-tally.ensures c.keep.ensures c.after_line-at.ensures).1)
 
 pub loop-at-preserved : goal.loop-at-preserved
-loop-at-preserved c = (on (goal.at.loop-at-preserved c).After-after_line-at).0
+loop-at-preserved c =
+    let this = turn (goal.at.loop-at-preserved c).After-read_record-read in
+    (this.on _ _ _ (not-false _ c.if-not-read.false) c.with_order-tally.ensures c.keep.ensures c.after_line-at.ensures).0
 
 pub shape_of-kept : goal.shape_of-kept
 shape_of-kept c = c.loop-at.invariant.as_long
