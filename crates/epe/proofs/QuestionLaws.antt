@@ -1,11 +1,11 @@
 -- What a verdict says of its questions, and questions asked one after the other.
---     all_yes, refused-by        the two promises of `Questions`; all-yes-passed is the way back
---     asked-no, asked-yes        what comes of the first question, whatever is asked and whatever comes of it
---     asked-none, asked-append   no question, and questions behind others
---     asked-either               what holds of every refusal, and of what comes next where all are answered yes, holds of what is asked
---     asked-passed, asked-refused   the same by a verdict that is known, whatever comes of the questions
---     asked-behind, asked-before    and with other questions behind them
---     asked-through              what a function makes of it
+--     all_yes, refused_by        the two promises of `Questions`; all_yes_passed is the way back
+--     asked_no, asked_yes        what comes of the first question, whatever is asked and whatever comes of it
+--     asked_none, asked_append   no question, and questions behind others
+--     asked_either               what holds of every refusal, and of what comes next where all are answered yes, holds of what is asked
+--     asked_passed, asked_refused   the same by a verdict that is known, whatever comes of the questions
+--     asked_behind, asked_before    and with other questions behind them
+--     asked_through              what a function makes of it
 -- Assumes nothing.
 use mathlib.Core.Path.{◌≡◌, refl, sym, ap, ◌∙◌}
 use mathlib.Core.Bool.{Bool, true, false, cond}

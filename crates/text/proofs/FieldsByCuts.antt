@@ -1,8 +1,8 @@
 -- The fields of a text, found again by the places of its separators.
---     field-by-table     field k by the table of the text's own cuts is field k
---     count-of-fields    there is one field more than there are cuts
+--     field_by_table     field k by the table of the text's own cuts is field k
+--     count_of_fields    there is one field more than there are cuts
 --     field_found        the same of what `cut` left and `field` answered
---     so-many-fields     a count short of the table's size tells the number of fields
+--     so_many_fields     a count short of the table's size tells the number of fields
 -- Assumes nothing.
 use mathlib.Core.Path.{◌≡◌, refl, sym, ◌∙◌, ap}
 use mathlib.Core.Bool.{Bool, true, false, cond}

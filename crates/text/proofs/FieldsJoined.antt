@@ -1,9 +1,9 @@
 -- Fields of a text that was joined, or parted at a separator.
---     fields-parted     the fields on both sides of a separator
---     fields-last       a text without the separator is one field, and no field has it (fields-without)
---     fields-of-joined  texts without it, joined by it, are the fields again
---     joined-append     texts joined are those before a place, the parting, and those behind it
---     ended-text        a text whose last field is empty ends with the separator
+--     fields_parted     the fields on both sides of a separator
+--     fields_last       a text without the separator is one field, and no field has it (fields_without)
+--     fields_of_joined  texts without it, joined by it, are the fields again
+--     joined_append     texts joined are those before a place, the parting, and those behind it
+--     ended_text        a text whose last field is empty ends with the separator
 -- Assumes nothing.
 use mathlib.Core.Path.{◌≡◌, refl, sym, ◌∙◌, ap}
 use mathlib.Core.Bool.{Bool, true, false, ◌||◌, false≢true}

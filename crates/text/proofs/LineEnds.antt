@@ -1,6 +1,6 @@
 -- Lines of a text from a place on: where one ends, and how the next follows.
---     line-here        a line that ends with CR LF, and the lines after it
---     last-line-here   the line that ends with the text
+--     line_here        a line that ends with CR LF, and the lines after it
+--     last_line_here   the line that ends with the text
 -- Assumes nothing.
 use mathlib.Core.Path.{◌≡◌, refl}
 use mathlib.Core.Bool.{Bool, true, false, cond, ◌&&◌}

@@ -1,5 +1,5 @@
 -- Counting the octets that are no tail counts characters: a character is written with one such octet, its first, and every well-formed text is
--- the writing of what it decodes to (`read-is-written`).
+-- the writing of what it decodes to (`read_is_written`).
 -- Assumes nothing.
 use mathlib.Core.Path.{◌≡◌, refl, sym, ◌∙◌, ap}
 use mathlib.Core.List.{List, [], ◌∷◌, ◌++◌}

@@ -30,7 +30,7 @@ unfoldable pub cut_count : ℕ → ℕ → List ℕ → ℕ
 cut_count size separator s = min size (length (cuts separator s))
 
 -- Field k by such a table: from behind the cut before it to the cut after it, the first from the start and the last to the end.
--- By the table of that very text this is field k (`field-by-table`); by another it is some part of the text, or nothing.
+-- By the table of that very text this is field k (`field_by_table`); by another it is some part of the text, or nothing.
 unfoldable pub field_by : List ℕ → ℕ → ℕ → List ℕ → List ℕ
 field_by table count k s =
     cond (ltb count k) []

@@ -5,12 +5,10 @@ use Rattle.money.proofs.Sums.{transfer_within}
 use Rattle.money.specs.declared.SumRead.TheVariants.{Is as SumIs}
 use Rattle.money.proofs.Sum.of_transfer.Goals as goal
 
--- src/lib.rt:234:13
 pub returns-then-not-is_transfer : goal.returns-then-not-is_transfer
 unfolding as_transfer
 returns-then-not-is_transfer c = rw (sym c.is_transfer.ensures ∙ c.if-not-is_transfer.true)
 
--- src/lib.rt:236:22
 pub of-requires : goal.of-requires
 of-requires c = transfer_within c.args.money _ (sym c.is_transfer.ensures ∙ c.if-not-is_transfer.false)
 
