@@ -71,7 +71,7 @@ zs1 = file ("1|ZUS|EPE|1.0|ZS1|ABC123|20201007120000|20201007|A|0|3|175.50" ∷ 
 
 -- names the definitions that the examples compute
 opens : List ℕ → List ℕ → Verdict
-unfolding ascii tail_octet lead2 lead3 lead4 point2 point3 point4 surrogate range2 range3 range4 row2 row3 row4 width well_formed_after digit letter letter_or_digit letters_or_digits same has_byte number number_after is_number value_of fields onto lines parted without_last_end stray real leap month_length asked identifier name_questions marked file_questions fixed_questions repeated_questions opening_questions opening
+unfolding ascii tail_octet lead2 lead3 lead4 point2 point3 point4 surrogate range2 range3 range4 row2 row3 row4 width well_formed_after digit letter letter_or_digit letters_or_digits has_byte number number_after is_number value_of fields onto lines parted without_last_end stray real leap month_length asked identifier name_questions marked file_questions fixed_questions repeated_questions opening_questions opening
 opens = opening
 
 holds_orders : Profile → List ℕ → Verdict

@@ -45,18 +45,18 @@ none_held = refl
 
 -- Case counts.
 by_case : same_ident (ident_of (bytes "ZS1")) (ident_of (bytes "Zs1")) ≡ false
-unfolding same_ident same ident_of identifier letters_or_digits letter_or_digit letter digit
+unfolding same_ident ident_of identifier letters_or_digits letter_or_digit letter digit
 by_case = refl
 
 -- In no form: a length of 18 for 17 bytes, and a byte behind the length.
 out_of_form : map ident_in_form
     (record { bytes = bytes "ABCDEFGHIJKLMNopq"; len = 18 } ∷ record { bytes = bytes "ZS12" ++ replicate 13 0; len = 3 } ∷ [])
     ≡ false ∷ false ∷ []
-unfolding ident_in_form same identifier letters_or_digits letter_or_digit letter digit
+unfolding ident_in_form identifier letters_or_digits letter_or_digit letter digit
 out_of_form = refl
 
 judged : String → Verdict
-unfolding name_questions asked same fields onto identifier letters_or_digits letter_or_digit letter number number_after is_number value_of digit real leap month_length
+unfolding name_questions asked fields onto identifier letters_or_digits letter_or_digit letter number number_after is_number value_of digit real leap month_length
 judged s = first_no (name_questions (bytes s))
 
 -- Names that pass: the paper's, both payment kinds, the last kind, 29 February 2000.
@@ -87,7 +87,7 @@ unfolding name_of ident_of identifier letters_or_digits letter_or_digit letter f
 parts = refl
 
 titled : String → Verdict
-unfolding title_of title_questions short_title has_long_date is_passed name_questions asked same fields onto identifier letters_or_digits letter_or_digit letter number number_after is_number value_of digit real leap month_length
+unfolding title_of title_questions short_title has_long_date is_passed name_questions asked fields onto identifier letters_or_digits letter_or_digit letter number number_after is_number value_of digit real leap month_length
 titled s = (title_of (bytes s)).verdict
 
 titles : map titled ("EPEZZS1-201007-A-0-K" ∷ "EPEZZS1-201007-A-0-O" ∷ []) ≡ Passed ∷ Passed ∷ []
@@ -119,7 +119,7 @@ near_long_refused = refl
 
 -- What a title gives: the name before its ending, and the money of its ending.
 money : String → Money
-unfolding title_of short_title has_long_date same fields onto
+unfolding title_of short_title has_long_date fields onto
 money s = (title_of (bytes s)).money
 
 moneys : map money ("EPEZZS1-201007-A-0-K" ∷ "EPEZZS1-201007-A-0-O" ∷ "EPEZZS1-20201007-A-0-K" ∷ "EPEZZS1-20201007-A-0-O" ∷ []) ≡ K ∷ O ∷ K ∷ O ∷ []
@@ -127,11 +127,11 @@ unfolding money
 moneys = refl
 
 title_name_lem : (title_of (bytes "EPEZZS1-201007-A-0-O")).name ≡ name_of (bytes "EPEZZS1-201007-A-0")
-unfolding title_of short_title has_long_date same fields onto
+unfolding title_of short_title has_long_date fields onto
 title_name_lem = refl
 
 long_title_name : (title_of (bytes "EPEZZS1-20201007-A-0-O")).name ≡ name_of (bytes "EPEZZS1-201007-A-0")
-unfolding title_of short_title has_long_date same fields onto
+unfolding title_of short_title has_long_date fields onto
 long_title_name = refl
 
 -- The long form of a title, and the short one of that.
@@ -140,7 +140,7 @@ unfolding fields onto
 lengthened = refl
 
 shortened : short_title (bytes "EPEZZS1-20201007-A-0-K") ≡ bytes "EPEZZS1-201007-A-0-K"
-unfolding short_title has_long_date same fields onto
+unfolding short_title has_long_date fields onto
 shortened = refl
 
 -- Profiles by today, a flat part and R: the last ones within the ranges, and each past one of them.

@@ -131,14 +131,12 @@ module _ (p q x : List ℕ) (enough : 2 ≤ length x) where
 
 -- a hyphen among the first three bytes, or behind them: whether they are EPE, and what stands behind, is the same whatever comes after it
 start_kept : (front s t : List ℕ) → same (take 3 (front ++ (0x2D ∷ t))) (bytes "EPE") ≡ same (take 3 (front ++ (0x2D ∷ s))) (bytes "EPE")
-unfolding same
 start_kept [] s t = refl
 start_kept (x ∷ []) s t = refl
 start_kept (x ∷ y ∷ []) s t = refl
 start_kept (x ∷ y ∷ z ∷ front) s t = refl
 
 behind_kept : (front s t : List ℕ) → same (take 3 (front ++ (0x2D ∷ s))) (bytes "EPE") ≡ true → get_or (front ++ (0x2D ∷ t)) 3 0 ≡ get_or (front ++ (0x2D ∷ s)) 3 0
-unfolding same
 behind_kept [] s t is = absurd (false≢true is)
 behind_kept (x ∷ []) s t is = absurd (false≢true (and_right (eqb x 0x45) false is))
 behind_kept (x ∷ y ∷ []) s t is = absurd (false≢true (and_right (eqb y 0x50) false (and_right (eqb x 0x45) (eqb y 0x50 && false) is)))
@@ -270,7 +268,7 @@ module _ (front rest : List ℕ) (parts : (t : List ℕ) → fields 0x2D (front 
       rw (parts rest, take-append-add front all 1, drop-append-add front all 1) (append_assoc front (0x2D ∷ []) (0x32 ∷ 0x30 ∷ rest))
 
   long_by_six : length (name_part 1 rest) ≡ 6 → has_long_date (front ++ (0x2D ∷ 0x32 ∷ 0x30 ∷ rest)) ≡ true
-  unfolding has_long_date same
+  unfolding has_long_date
   long_by_six six = rw (long_parts front rest parts, onto_first 0x32 (onto 0x30 (fields 0x2D rest)), onto_first 0x30 (fields 0x2D rest), six)
 
   not_long_by_six : length (name_part 1 rest) ≡ 6 → has_long_date (front ++ (0x2D ∷ rest)) ≡ false

@@ -96,7 +96,7 @@ module _ (code own : List ℕ) (created : ℕ) (source outcome : List ℕ) (rows
   header_field n = ap (λ (row : List (List ℕ)). get_or row (n - 1) []) header_fields
 
   pub header_reads : HeaderReads report code own created source
-  unfolding marked same
+  unfolding marked
   header_reads = record {
     is_marked = refl;
     well_formed_holds = text_well_formed (header_of code own created source outcome) rows full;

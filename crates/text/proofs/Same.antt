@@ -13,19 +13,15 @@ use Rattle.text.proofs.Places.{from_here}
 
 module _ (a b : List ℕ) (i : ℕ) (ha : i < length a) (hb : i < length b) where
   pub same_on : get_or a i 0 ≡ get_or b i 0 → same (drop i a) (drop i b) ≡ same (drop (i + 1) a) (drop (i + 1) b)
-  unfolding same
   same_on e = rw (from_here a i ha, from_here b i hb) (rw (eq-eqb (get_or a i 0) (get_or b i 0) e))
 
   pub same_not : (get_or a i 0 ≡ get_or b i 0 → ⊥) → same (drop i a) (drop i b) ≡ false
-  unfolding same
   same_not e = rw (from_here a i ha, from_here b i hb) (rw (ne_eqb (get_or a i 0) (get_or b i 0) e))
 
 pub same_end : (a b : List ℕ) (i : ℕ) → length a ≤ i → length b ≤ i → same (drop i a) (drop i b) ≡ true
-unfolding same
 same_end a b i h k = rw (drop_of_length-le a h, drop_of_length-le b k)
 
 pub same_length : (a b : List ℕ) → (length a ≡ length b → ⊥) → same a b ≡ false
-unfolding same
 same_length [] [] h = absurd (h refl)
 same_length [] (y ∷ b) h = refl
 same_length (x ∷ a) [] h = refl
@@ -33,7 +29,6 @@ same_length (x ∷ a) (y ∷ b) h = second_no (eqb x y) (same a b) (same_length 
 
 -- `same` says yes just where the texts are equal
 pub same_equal : (a b : List ℕ) → same a b ≡ true → a ≡ b
-unfolding same
 same_equal [] [] h = refl
 same_equal [] (y ∷ b) h = cc
 same_equal (x ∷ a) [] h = cc
@@ -43,7 +38,6 @@ same_equal (x ∷ a) (y ∷ b) h =
     cc
 
 pub same_self : (a : List ℕ) → same a a ≡ true
-unfolding same
 same_self [] = refl
 same_self (x ∷ a) = rw (eq-eqb x x refl) (same_self a)
 
@@ -53,7 +47,6 @@ and_assoc false u v = refl
 
 -- a text is two texts one after the other where its first bytes are the one and the rest is the other
 pub same_joined : (s a b : List ℕ) → same s (a ++ b) ≡ (same (take (length a) s) a && same (drop (length a) s) b)
-unfolding same
 same_joined s [] b = refl
 same_joined [] (y ∷ a) b = refl
 same_joined (x ∷ s) (y ∷ a) b =

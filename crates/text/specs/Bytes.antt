@@ -1,5 +1,6 @@
 -- Bytes: digits and letters, parts of a text, equality of two texts, and where a byte stands.
 use Rattle.std.specs.Prelude.{Bool, true, false, cond, ◌&&◌, ◌||◌, List, [], ◌∷◌, ℕ, suc, ◌-◌, leb, eqb, take, drop}
+use lib.Pointwise.{pointwise}
 
 -- from low to high, both included
 abbrev pub between : ℕ → ℕ → ℕ → Bool
@@ -25,11 +26,8 @@ abbrev pub part : ℕ → ℕ → List ℕ → List ℕ
 part a e s = take (e - a) (drop a s)
 
 -- two texts have the same bytes
-unfoldable pub same : List ℕ → List ℕ → Bool
-same [] [] = true
-same [] (b ∷ t) = false
-same (a ∷ s) [] = false
-same (a ∷ s) (b ∷ t) = eqb a b && same s t
+abbrev pub same : List ℕ → List ℕ → Bool
+same = pointwise eqb
 
 -- a byte stands in a text
 unfoldable pub has_byte : ℕ → List ℕ → Bool
