@@ -11,7 +11,6 @@ use memory::head::{head_bytes, is_paired, orders};
 use memory::row::{amount, fee, state, store_state};
 use model::{Deed, State};
 use money::{Amount, Fee};
-use text::number::is_between;
 
 // What was handled, or the number of the question answered no.
 #[derive(Clone, Copy)]
@@ -29,7 +28,7 @@ pub fn handle_at(memory: &mut [u8], i: usize, k: usize, deed: Deed, number: u64)
     if !is_paired(head) {
         return Handling::Refused(refusals::NOT_PAIRED);
     }
-    if !is_between(1, orders(head), number) {
+    if !(1..=orders(head)).contains(&number) {
         return Handling::Refused(refusals::NO_SUCH_ORDER);
     }
     let at = k + (number - 1) as usize;

@@ -8,7 +8,7 @@ use book::numbers::are_known;
 use calendar::date::Date;
 use epe::profile::{Profile, fees_of};
 use fee::Rate;
-use memory::number::read_eight;
+use memory::number::read;
 use text::bytes::{first, rest};
 
 // The number at a place, 0 where the entry has none.
@@ -17,7 +17,7 @@ pub fn entry_number(entry: &[u8], k: usize) -> u64
     ensures { result ≡ entry_number entry.now k }
 {
     if k < count_at(entry, 1) {
-        return read_eight(entry, 3 + 8 * k);
+        return read::<8>(entry, 3 + 8 * k);
     }
     0
 }
@@ -71,7 +71,7 @@ pub fn entry_length(entry: &[u8]) -> usize
 pub fn does_journal_fit(journal: &[u8]) -> bool
     ensures { result ≡ journal_fits journal.now }
 {
-    8 <= journal.len() && do_entries_fit(rest(journal, 8), read_eight(journal, 0))
+    8 <= journal.len() && do_entries_fit(rest(journal, 8), read::<8>(journal, 0))
 }
 
 // How many, as a byte of an entry says.
@@ -107,7 +107,7 @@ fn text_length(entry: &[u8], j: usize) -> u64
     ensures { result ≡ text_length entry.now j }
 {
     if j < count_at(entry, 2) {
-        return read_eight(entry, lengths_start(entry) + 8 * j);
+        return read::<8>(entry, lengths_start(entry) + 8 * j);
     }
     0
 }

@@ -9,7 +9,7 @@ ghost use Rattle.audit.specs.Replay.{empty_in, Replayable, Replayed, Replays};
 
 use crate::journal::{does_journal_fit, entry_length};
 use crate::play::play;
-use memory::number::read_eight;
+use memory::number::read;
 use memory::shipments;
 use sound::is_sound;
 use text::bytes::rest;
@@ -30,7 +30,7 @@ pub fn replay(memory: &mut [u8], journal: &[u8], answers: &mut [[u64; 3]]) -> Re
     if !does_journal_fit(journal) {
         return Replaying::NotEncoded;
     }
-    let n = read_eight(journal, 0);
+    let n = read::<8>(journal, 0);
     if (answers.len() as u64) < n {
         return Replaying::TooFewAnswers;
     }

@@ -1,20 +1,15 @@
 -- What soundness asks of a state, by its byte alone, computed at each of the 256.
 -- Assumes nothing.
 use mathlib.Core.Path.{◌≡◌, refl}
-use mathlib.Core.Bool.{Bool, true, false, not, ◌&&◌, ◌||◌}
+use mathlib.Core.Bool.{Bool, not, ◌&&◌, ◌||◌}
 use mir.Val.{bool_byte}
-use Prim.Native.Nat.{ℕ, ◌+◌, ◌*◌, ◌%◌, ◌≤◌, ◌<◌}
-use native.Mathlib.Omega.{arith}
+use Prim.Native.Nat.{ℕ, ◌+◌, ◌*◌, ◌%◌, ◌<◌}
 use borrow.Author.Tests.{eqb-true}
 use lib.Dec.{eqb, leb, ltb}
+use Rattle.text.specs.Bytes.{between}
 use Rattle.calendar.proofs.Computed.{each}
 use Rattle.memory.specs.States.{last_code, state_of}
 use Rattle.memory.specs.Inner.Classes.{class_of}
-
--- a flag is 0 or 1
-pub flag_low : (t : Bool) → bool_byte t ≤ 1
-flag_low true = omega arith
-flag_low false = omega arith
 
 -- the three questions, as code asks them
 abbrev pub says_none : ℕ → Bool
@@ -24,7 +19,7 @@ abbrev pub says_fault : ℕ → Bool
 says_fault code = says_none code || leb 12 code
 
 abbrev pub says_early : ℕ → Bool
-says_early code = eqb code 0 || (leb 12 code && (leb code last_code && eqb (code % 4) 3))
+says_early code = eqb code 0 || (between 12 last_code code && eqb (code % 4) 3)
 
 abbrev pub class_by : ℕ → ℕ
 class_by code = bool_byte (says_fault code) + (2 * bool_byte (not (says_early code)) + 4 * bool_byte (says_none code))

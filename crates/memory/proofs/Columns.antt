@@ -45,6 +45,13 @@ module _ {money : Money} {m : List ℕ} {k n : ℕ} where
     pub adding_done : left ≤ 0 → total ≡ sum_over (worth money) (rows_from m k n)
     adding_done done = omega (arith, ap (sum_over (worth money)) (rows_done m i left done))
 
+    -- and so, where left is what lies before an end
+    pub adding_next : {next : ℕ} → left ≡ k + n - i → i < k + n → worth money (row_of (row_bytes m i)) < 2 ^ 32
+        → next ≡ total + worth money (row_of (row_bytes m i)) → Adding money m k n next (i + 1) (k + n - (i + 1))
+    adding_next left_is more low next_is =
+        let fewer : k + n - (i + 1) ≡ left - 1 = omega arith in
+        rw fewer (adding_on (omega arith) refl low next_is)
+
     -- so many numbers of four bytes each are a sum
     pub adding_within : n ≤ most_rows → WithinSum total
     adding_within few = omega arith

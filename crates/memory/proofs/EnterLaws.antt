@@ -1,17 +1,19 @@
 -- An order and a shipment entered are read back, and nothing else moves.
 -- Assumes nothing.
-use mathlib.Core.Path.{◌≡◌, refl, ap, ◌∙◌}
+use mathlib.Core.Path.{◌≡◌, refl, ap, subst, ◌∙◌}
 use mathlib.Core.Bool.{true, ◌&&◌}
 use mathlib.Core.List.{List, [], ◌++◌, append-nil}
 use mathlib.Core.Logic.{◌⊎◌, inl, ⊎_elim}
-use Prim.Native.Nat.{ℕ, zero, suc, ◌+◌, ◌^◌, ◌<◌, ◌≤◌}
+use Prim.Native.Nat.{ℕ, zero, suc, ◌+◌, ◌-◌, ◌^◌, ◌<◌, ◌≤◌}
 use native.Mathlib.Nat.{zero-add}
 use native.Mathlib.Numerals.{add-one}
 use native.Mathlib.Omega.{arith}
 use borrow.Author.Tests.{eqb-false, leb-true, le-leb}
+use borrow.Rule.Slice.PartMut.{put_mid}
 use lib.Dec.{eqb, leb}
 use lib.ListN.{length, get_or, set, take, drop}
-use lib.Seq.{drop-length, take_at, take_all, get_or-append-add, paste-suc}
+use lib.Seq.{drop-length, take_at, take_all, get_or-append-add, paste, paste-zero, paste-suc}
+use Rattle.std.proofs.lemmas.Slice.{put_mid-paste}
 use Rattle.money.specs.Money.{amount, fee}
 use Rattle.fee.specs.Fee.{TermsFit, remainder_of, fee_of}
 use Rattle.fee.specs.declared.Terms.{Terms}
@@ -104,17 +106,17 @@ module _ (terms : Terms) (order : Order) (k : ℕ) (m : List ℕ) (there : k < m
             (only_again (cell_number_only 2 with_fee k (remainder_at k) _ (λ q h. remainder_cell k q there h)) (code.only there)));
       }
 
--- bytes copied one by one: j of them, and the rest as it was
-pub one_more : (a b : List ℕ) (j : ℕ) → j < length a → j < length b → set (take j a ++ drop j b) j (get_or a j 0) ≡ take (j + 1) a ++ drop (j + 1) b
+-- bytes pasted, one more of them each time: j of them, and the rest as it was
+one_more : (a b : List ℕ) (j : ℕ) → j < length a → j < length b → set (take j a ++ drop j b) j (get_or a j 0) ≡ take (j + 1) a ++ drop (j + 1) b
 one_more a b j more room = rw (add-one j) (rw (zero-add j, zero-add (suc j)) at (paste-suc b 0 a j 0 (omega arith) more))
 
-pub record Storing (head : List ℕ) (j i : ℕ) (m m' : List ℕ) : Type 0 where
-  pub within : j ≤ head_size
-  pub bytes : head_bytes m' i ≡ take j head ++ drop j (head_bytes m i)
-  pub only : OnlyHead i m m'
+record Storing (head : List ℕ) (j i : ℕ) (m m' : List ℕ) : Type 0 where
+  within : j ≤ head_size
+  bytes : head_bytes m' i ≡ take j head ++ drop j (head_bytes m i)
+  only : OnlyHead i m m'
 
 module _ (head : List ℕ) (i : ℕ) (m : List ℕ) where
-  pub storing_none : Storing head 0 i m m
+  storing_none : Storing head 0 i m m
   storing_none = record { within = omega arith; bytes = refl; only = only_none }
 
   module _ (whole : IsHead head) (few : i < most_shipments) (enough : size ≤ length m) where
@@ -122,7 +124,7 @@ module _ (head : List ℕ) (i : ℕ) (m : List ℕ) where
     unfolding head_bytes
     as_long_as = part_long m (head_at i) head_size (omega arith)
 
-    pub storing_one_more : (j : ℕ) (m' : List ℕ) → j < head_size → Storing head j i m m' → Storing head (j + 1) i m (set m' (head_at i + j) (get_or head j 0))
+    storing_one_more : (j : ℕ) (m' : List ℕ) → j < head_size → Storing head j i m m' → Storing head (j + 1) i m (set m' (head_at i + j) (get_or head j 0))
     storing_one_more j m' more so_far = record {
       within = omega arith;
       bytes =
@@ -132,10 +134,22 @@ module _ (head : List ℕ) (i : ℕ) (m : List ℕ) where
       only = only_again so_far.only (head_byte_only m' i j (get_or head j 0) more few);
     }
 
-    pub head_stored : (m' : List ℕ) → Storing head head_size i m m' → HeadStored head i m m'
-    head_stored m' so_far =
+    all_stored : (m' : List ℕ) → Storing head head_size i m m' → HeadStored head i m m'
+    all_stored m' so_far =
         let none : drop head_size (head_bytes m i) ≡ [] = rw as_long_as at (drop-length (head_bytes m i)) in
         record { bytes = so_far.bytes ∙ ap (λ rest. take head_size head ++ rest) none ∙ append-nil (take head_size head) ∙ take_all head_size head (omega arith); only = so_far.only }
+
+    storing : (j : ℕ) → j ≤ head_size → Storing head j i m (paste m (head_at i) head j)
+    storing zero few_bytes = subst (Storing head 0 i m) (paste-zero m (head_at i) head) storing_none
+    storing (suc j) few_bytes =
+        subst (λ n. Storing head n i m (paste m (head_at i) head (suc j))) (add-one j)
+        (subst (Storing head (j + 1) i m) (paste-suc m (head_at i) head j 0 (omega arith) (omega arith))
+        (storing_one_more j (paste m (head_at i) head j) (omega arith) (storing j (omega arith))))
+
+    pub head_stored : (part : List ℕ) → part ≡ head → HeadStored head i m (put_mid (head_at i) (head_at i + head_size - head_at i) m part)
+    head_stored part is =
+        rw (put_mid-paste (head_at i) (head_at i + head_size - head_at i) m part head head_size is (omega arith) (omega arith))
+        (all_stored (paste m (head_at i) head head_size) (storing head_size (omega arith)))
 
 -- a number behind a list
 number_behind : (width : ℕ) (a b : List ℕ) (q : ℕ) → number_at width (a ++ b) (length a + q) ≡ number_at width b q

@@ -1,28 +1,20 @@
--- The identifier in a head: it is copied byte by byte, two are the same just where three numbers of their heads are equal, and the zeros behind one.
+-- The identifier in a head: two are the same just where three numbers of their heads are equal, and the zeros behind one.
 -- Assumes nothing.
 use mathlib.Core.Path.{◌≡◌, sym, ap, ◌∙◌}
 use mathlib.Core.Bool.{Bool, ◌&&◌, and_comm}
 use mathlib.Core.List.{List}
 use Prim.Native.Nat.{ℕ, zero, suc, ◌+◌, ◌-◌, ◌<◌}
 use native.Mathlib.Nat.{sub-zero, zero-sub}
-use native.Mathlib.Numerals.{add-one}
 use native.Mathlib.Omega.{arith}
 use lib.Dec.{eqb}
-use lib.ListN.{length, get_or, take, drop, replicate, set, length-drop}
-use lib.Seq.{take-suc, take-suc-set, get_or-drop}
+use lib.ListN.{length, get_or, take, drop, replicate, length-drop, length-replicate}
+use lib.Seq.{take_all}
 use Rattle.text.specs.Bytes.{same}
 use Rattle.epe.specs.Ident.{same_ident}
 use Rattle.memory.specs.Number.{number_at}
 use Rattle.memory.specs.Layout.{IsHead}
 use Rattle.memory.specs.Heads.{name_in}
 use Rattle.memory.proofs.Numbers.{alike, by_parts, by_bytes}
-
--- bytes from a place on, copied one by one
-module _ (s bytes : List ℕ) (at i : ℕ) (room : i < length bytes) (there : at + i < length s) where
-  pub byte_copied : take i bytes ≡ take i (drop at s) → take (i + 1) (set bytes i (get_or s (at + i) 0)) ≡ take (i + 1) (drop at s)
-  byte_copied copied =
-      let long : i < length (drop at s) = omega (arith, length-drop at s) in
-      rw (add-one, take-suc-set bytes i (get_or s (at + i) 0) room, take-suc (drop at s) i 0 long, get_or-drop, copied)
 
 one_byte : (head : List ℕ) (at : ℕ) → number_at 1 head at ≡ get_or head at 0
 unfolding number_at
@@ -45,7 +37,17 @@ module _ (a b : List ℕ) (long_a : IsHead a) (long_b : IsHead b)
       ∙ parts 8 10 0
       ∙ ap (λ rest. alike a b 8 0 && rest) (parts 8 2 8)
 
-pub zeros_left : (n m : ℕ) → drop n (replicate {A = ℕ} m 0) ≡ replicate (m - n) 0
+zeros_left : (n m : ℕ) → drop n (replicate {A = ℕ} m 0) ≡ replicate (m - n) 0
 zeros_left zero m = rw (sub-zero m)
 zeros_left (suc n) zero = rw (zero-sub (suc n))
 zeros_left (suc n) (suc m) = let fewer : suc m - suc n ≡ m - n = omega arith in rw fewer (zeros_left n m)
+
+-- the bytes from a place on, as code takes them, against as many zeros
+pub zeros_behind : (head : List ℕ) (n : ℕ) → IsHead head
+    → same (take (length (take 17 head) - n) (drop n (take 17 head))) (take (17 - n) (drop n (replicate 17 0))) ≡ same (drop n (take 17 head)) (replicate (17 - n) 0)
+zeros_behind head n whole =
+    let s = take 17 head in
+    let zeros = zeros_left n 17 in
+    let long : length (replicate {A = ℕ} (17 - n) 0) ≡ 17 - n = length-replicate (17 - n) 0 in
+    (λ i. same (take_all (length s - n) (drop n s) (omega (arith, length-drop n s)) i) (take (17 - n) (zeros i)))
+    ∙ ap (same (drop n s)) (take_all (17 - n) (replicate (17 - n) 0) (omega (arith, long)))

@@ -3,14 +3,12 @@
 use mathlib.Core.Path.{◌≡◌, refl, ap, ◌∙◌}
 use mathlib.Core.Bool.{Bool, true, false, cond, ◌&&◌}
 use mathlib.Core.List.{List}
-use Prim.Native.Nat.{ℕ, ◌+◌, ◌-◌, ◌/◌, ◌%◌, ◌<◌, ◌≤◌}
+use Prim.Native.Nat.{ℕ, ◌-◌, ◌/◌, ◌%◌, ◌<◌, ◌≤◌}
 use native.Mathlib.Omega.{arith}
-use borrow.Author.Tests.{eqb-true, eqb-false}
-use lib.Dec.{eqb}
-use lib.ListN.{length, get_or, set, length-set}
-use lib.Seq.{get_or-set_same, get_or-set_other, set-get_or}
-use Rattle.text.specs.Bytes.{same}
-use Rattle.text.proofs.Branches.{and_left, and_right, either_way}
+use borrow.Author.Tests.{eqb-true}
+use lib.ListN.{length, get_or, set}
+use lib.Seq.{set-get_or}
+use Rattle.text.proofs.Branches.{and_left, and_right}
 use Rattle.calendar.proofs.Computed.{below, each}
 use Rattle.money.specs.declared.Money.{Money}
 use Rattle.money.specs.declared.Money.TheVariants.{K, O}
@@ -34,7 +32,7 @@ returned_right route money code =
     && alike (state_of (code_after route money code)) (state_after route money (state_of code))
 
 returned_each : (route : Route) (money : Money) → below (returned_right route money) 256 ≡ true
-unfolding returned_right agree state_of same
+unfolding returned_right agree state_of
 returned_each Zwr K = refl
 returned_each Zwr O = refl
 returned_each Opr K = refl
@@ -118,23 +116,3 @@ pub record RepliesBelow (route : Route) (money : Money) (n : ℕ) (table : List 
   pub long : length table ≡ 256
   pub within : n ≤ 256
   pub told : (code : ℕ) → code < n → get_or table code 0 ≡ wait_in route money code
-
-module _ {route : Route} {money : Money} where
-  pub told_none : {table : List ℕ} → length table ≡ 256 → RepliesBelow route money 0 table
-  told_none long = record { long = long; within = omega arith; told = λ code below. absurd (omega arith) }
-
-  module _ {n : ℕ} {table : List ℕ} (so_far : RepliesBelow route money n table) where
-    pub told_more : {wait : ℕ} → n < 256 → wait ≡ wait_in route money n → RepliesBelow route money (n + 1) (set table n wait)
-    told_more {wait} more wait_is = record {
-      long = length-set table n wait ∙ so_far.long;
-      within = omega arith;
-      told = λ code below.
-          either_way (eqb code n)
-          (λ here. rw (eqb-true code n here) (get_or-set_same table n wait 0 (omega (arith, so_far.long)) ∙ wait_is))
-          (λ there.
-          let apart = eqb-false code n there in
-          get_or-set_other table n code wait 0 apart ∙ so_far.told code (omega arith));
-    }
-
-    pub told_all : 256 ≤ n → WaitTable route money table
-    told_all all = record { long = so_far.long; told = λ code byte. so_far.told code (omega arith) }

@@ -73,7 +73,7 @@ faulty_back k o fault h computed =
     alike_equal _ _ (rw (ne_eqb fault 0 (omega arith)) at here)
 
 pub state_is_read_back : StateIsReadBack
-unfolding state_of read_back same
+unfolding state_of read_back
 state_is_read_back Open h = refl
 state_is_read_back Posted h = refl
 state_is_read_back Paid h = refl

@@ -23,6 +23,6 @@ fn class_of(code: u8) -> u8
 {
     let none = (LAST_CODE < code) | ((code == 3) | ((code == 6) | (code == 7)));
     let faulty = none | (12 <= code);
-    let early = (code == 0) | ((12 <= code) & ((code <= LAST_CODE) & (code % 4 == 3)));
+    let early = (code == 0) | ((12..=LAST_CODE).contains(&code) & (code % 4 == 3));
     faulty as u8 + (2 * !early as u8 + 4 * none as u8)
 }

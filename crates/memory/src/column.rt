@@ -15,12 +15,9 @@ pub fn amounts_in(memory: &[u8], k: usize, n: usize) -> Amount
     ensures { (result ≡ amount (sum_over (worth K) (rows_from memory.now k n))) × WithinSum result.0 }
 {
     let mut sum = Amount::sum(0);
-    let mut i = k;
-    let mut left = n;
-    while 0 < left {
+    // Kept: 3c: a row lies in columns, so there is no slice of rows to walk.
+    for i in k..k + n {
         sum = Amount::sum(sum.0 + amount(memory, i).0);
-        i += 1;
-        left -= 1;
     }
     sum
 }
@@ -31,12 +28,9 @@ pub fn fees_in(memory: &[u8], k: usize, n: usize) -> Fee
     ensures { (result ≡ fee (sum_over (worth O) (rows_from memory.now k n))) × WithinSum result.0 }
 {
     let mut sum = Fee::sum(0);
-    let mut i = k;
-    let mut left = n;
-    while 0 < left {
+    // Kept: 3c: a row lies in columns, so there is no slice of rows to walk.
+    for i in k..k + n {
         sum = Fee::sum(sum.0 + fee(memory, i).0);
-        i += 1;
-        left -= 1;
     }
     sum
 }

@@ -8,7 +8,7 @@ ghost use Rattle.memory.specs.Layout.{size};
 ghost use Rattle.memory.specs.Inner.Enter.{Enterable, OrderEntered, HeadEntered, fields_of, HeadStored};
 
 use crate::head::{DATE, FLAT, KIND, LENGTH, ORDERS, PAYMENT, RATE};
-use crate::number::{store_four, store_two};
+use crate::number::store;
 use crate::row::store_state;
 use crate::{AMOUNTS, FEES, HEAD_SIZE, HEADS, REMAINDERS};
 use contents::record::Order;
@@ -17,6 +17,7 @@ use fee::{Charging, Terms, charge_on};
 use model::State;
 
 // Enters an order in row k, on the terms of its fee.
+#[tactic(auto, using(fee::proofs::Charged::never_above))]
 pub fn enter_order(memory: &mut [u8], k: usize, terms: Terms, order: Order)
     requires { (k < most_rows) × (size ≤ length memory.old) × Enterable terms order }
     ensures { OrderEntered terms order k memory.old memory.new }
@@ -24,14 +25,15 @@ pub fn enter_order(memory: &mut [u8], k: usize, terms: Terms, order: Order)
     let Charging::Of(charge) = charge_on(terms, order.amount) else {
         return;
     };
-    store_four(memory, AMOUNTS + 4 * k, order.amount.0);
-    store_four(memory, FEES + 4 * k, charge.fee.0);
-    store_two(memory, REMAINDERS + 2 * k, charge.remainder);
+    store::<4>(memory, AMOUNTS + 4 * k, order.amount.0);
+    store::<4>(memory, FEES + 4 * k, charge.fee.0);
+    store::<2>(memory, REMAINDERS + 2 * k, charge.remainder);
     let state = entered_state(order);
     store_state(memory, k, state);
 }
 
 // Enters a shipment of n orders in head i.
+#[tactic(auto, using(crate::proofs::EnterLaws::name_fits))]
 pub fn enter_head(memory: &mut [u8], i: usize, name: Name, terms: Terms, n: u64)
     requires { (i < most_shipments) × (size ≤ length memory.old) × (name_in_form name ≡ true) × TermsFit terms × (n < 2 ^ 16) }
     ensures { HeadEntered name terms n i memory.old memory.new }
@@ -55,13 +57,8 @@ fn head_of(name: Name, terms: Terms, n: u64) -> [u8; HEAD_SIZE]
     requires { (name.ident.len ≤ 17) × (name.kind ≤ 4) }
     ensures { result ≡ name.ident.bytes ++ fields_of name terms n }
 {
-    let bytes = name.ident.bytes;
     let mut head = fields(name, terms, n);
-    let mut j = 0;
-    while j < 17 {
-        head[j] = bytes[j];
-        j += 1;
-    }
+    head[..LENGTH].copy_from_slice(&name.ident.bytes);
     head
 }
 
@@ -71,25 +68,22 @@ fn store_head(memory: &mut [u8], i: usize, head: [u8; HEAD_SIZE])
     ensures { HeadStored head i memory.old memory.new }
 {
     let at = HEADS + HEAD_SIZE * i;
-    let mut j = 0;
-    while j < HEAD_SIZE {
-        memory[at + j] = head[j];
-        j += 1;
-    }
+    memory[at..at + HEAD_SIZE].copy_from_slice(&head);
 }
 
 // The head of a shipment as it is entered, but for the identifier.
+#[tactic(auto, unfolding(crate::specs::Number::with_number, crate::specs::Inner::Enter::fields_of))]
 fn fields(name: Name, terms: Terms, n: u64) -> [u8; HEAD_SIZE]
     requires { (name.ident.len ≤ 17) × (name.kind ≤ 4) }
     ensures { result ≡ replicate 17 0 ++ fields_of name terms n }
 {
     let mut head = [0u8; HEAD_SIZE];
     head[LENGTH] = name.ident.len as u8;
-    store_four(&mut head, DATE, name.date.0);
+    store::<4>(&mut head, DATE, name.date.0);
     head[PAYMENT] = name.payment;
     head[KIND] = name.kind as u8;
-    store_four(&mut head, FLAT, terms.flat.0);
-    store_two(&mut head, ORDERS, n);
-    store_two(&mut head, RATE, terms.rate.0);
+    store::<4>(&mut head, FLAT, terms.flat.0);
+    store::<2>(&mut head, ORDERS, n);
+    store::<2>(&mut head, RATE, terms.rate.0);
     head
 }

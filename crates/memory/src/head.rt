@@ -7,7 +7,7 @@ ghost use Rattle.memory.specs.Layout.{head_size, size, head_bytes, IsHead};
 ghost use Rattle.memory.specs.Heads.{terms_in, stage_in, go_ahead_in, flags_in_form, order_count_in, accepted_at, transfers_in, returned_at, surplus_in};
 ghost use Rattle.memory.specs.Inner.Stored.{stage_byte, with_stage_at, with_go_ahead_at, with_transfers_at, with_surplus_at};
 
-use crate::number::{read_eight, read_four, read_two, store_eight};
+use crate::number::{read, store};
 use crate::{HEAD_SIZE, HEADS};
 use fee::{Rate, Terms};
 use model::Stage;
@@ -53,6 +53,7 @@ const RETURNED_O: usize = 56;
 pub const RATE: usize = 64;
 
 // The bytes of head i.
+#[tactic(auto, using(crate::proofs::Parts::part_there), unfolding(crate::specs::Layout::head_bytes))]
 pub fn head_bytes(memory: &[u8], i: usize) -> &[u8]
     requires { (i < most_shipments) × (size ≤ length memory.now) }
     ensures { (result.now ≡ head_bytes memory.now i) × IsHead result.now }
@@ -63,6 +64,7 @@ pub fn head_bytes(memory: &[u8], i: usize) -> &[u8]
 }
 
 // Is the shipment Waiting?
+#[tactic(auto, using(crate::proofs::HeadLaws::waiting_byte))]
 pub fn is_waiting(head: &[u8]) -> bool
     requires { IsHead head.now }
     ensures { result ≡ is_waiting (stage_in head.now) }
@@ -71,6 +73,7 @@ pub fn is_waiting(head: &[u8]) -> bool
 }
 
 // Is the shipment Paired?
+#[tactic(auto, using(crate::proofs::HeadLaws::paired_byte))]
 pub fn is_paired(head: &[u8]) -> bool
     requires { IsHead head.now }
     ensures { result ≡ is_paired (stage_in head.now) }
@@ -100,8 +103,8 @@ pub fn terms(head: &[u8]) -> Terms
     ensures { result ≡ terms_in head.now }
 {
     Terms {
-        flat: Fee::sum(read_four(head, FLAT)),
-        rate: Rate(read_two(head, RATE)),
+        flat: Fee::sum(read::<4>(head, FLAT)),
+        rate: Rate(read::<2>(head, RATE)),
     }
 }
 
@@ -110,7 +113,7 @@ pub fn orders(head: &[u8]) -> u64
     requires { IsHead head.now }
     ensures { (result ≡ order_count_in head.now) × (result < 2 ^ 16) }
 {
-    read_two(head, ORDERS)
+    read::<2>(head, ORDERS)
 }
 
 // Are the transfers accepted and the surplus returned of a money sums?
@@ -120,7 +123,7 @@ pub fn has_sums_in_range(head: &[u8], money: Money) -> bool
 {
     let accepted = accepted_at(money);
     let returned = returned_at(money);
-    Sum::is_sum(money, read_eight(head, accepted)) && Sum::is_sum(money, read_eight(head, returned))
+    Sum::is_sum(money, read::<8>(head, accepted)) && Sum::is_sum(money, read::<8>(head, returned))
 }
 
 // The transfers accepted of a money.
@@ -129,7 +132,7 @@ pub fn accepted(head: &[u8], money: Money) -> Sum
     ensures { result ≡ sum_of money (transfers_in money head.now) }
 {
     let at = accepted_at(money);
-    Sum::of(money, read_eight(head, at))
+    Sum::of(money, read::<8>(head, at))
 }
 
 // The transfers accepted of K.
@@ -137,7 +140,7 @@ pub fn amounts_accepted(head: &[u8]) -> Amount
     requires { IsHead head.now × WithinSum (transfers_in K head.now) }
     ensures { result ≡ amount (transfers_in K head.now) }
 {
-    Amount::sum(read_eight(head, ACCEPTED_K))
+    Amount::sum(read::<8>(head, ACCEPTED_K))
 }
 
 // The transfers accepted of O.
@@ -145,7 +148,7 @@ pub fn fees_accepted(head: &[u8]) -> Fee
     requires { IsHead head.now × WithinSum (transfers_in O head.now) }
     ensures { result ≡ fee (transfers_in O head.now) }
 {
-    Fee::sum(read_eight(head, ACCEPTED_O))
+    Fee::sum(read::<8>(head, ACCEPTED_O))
 }
 
 // The surplus returned of a money.
@@ -154,7 +157,7 @@ pub fn returned(head: &[u8], money: Money) -> Sum
     ensures { result ≡ sum_of money (surplus_in money head.now) }
 {
     let at = returned_at(money);
-    Sum::of(money, read_eight(head, at))
+    Sum::of(money, read::<8>(head, at))
 }
 
 // The surplus returned of K.
@@ -162,7 +165,7 @@ pub fn amounts_returned(head: &[u8]) -> Amount
     requires { IsHead head.now × WithinSum (surplus_in K head.now) }
     ensures { result ≡ amount (surplus_in K head.now) }
 {
-    Amount::sum(read_eight(head, RETURNED_K))
+    Amount::sum(read::<8>(head, RETURNED_K))
 }
 
 // The surplus returned of O.
@@ -170,7 +173,7 @@ pub fn fees_returned(head: &[u8]) -> Fee
     requires { IsHead head.now × WithinSum (surplus_in O head.now) }
     ensures { result ≡ fee (surplus_in O head.now) }
 {
-    Fee::sum(read_eight(head, RETURNED_O))
+    Fee::sum(read::<8>(head, RETURNED_O))
 }
 
 // Stores a stage in head i.
@@ -198,7 +201,7 @@ pub fn store_accepted(memory: &mut [u8], i: usize, sum: Sum)
 {
     let at = HEADS + HEAD_SIZE * i;
     let field = accepted_at(sum.money());
-    store_eight(memory, at + field, sum.grosze());
+    store::<8>(memory, at + field, sum.grosze());
 }
 
 // Stores the surplus returned of a money in head i.
@@ -208,7 +211,7 @@ pub fn store_returned(memory: &mut [u8], i: usize, sum: Sum)
 {
     let at = HEADS + HEAD_SIZE * i;
     let field = returned_at(sum.money());
-    store_eight(memory, at + field, sum.grosze());
+    store::<8>(memory, at + field, sum.grosze());
 }
 
 // Where the transfers accepted of a money lie.

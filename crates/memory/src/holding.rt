@@ -8,7 +8,6 @@ ghost use Rattle.memory.specs.Inner.Holdings.{holding_of, holding_table};
 
 use crate::row::code;
 use crate::state::LAST_CODE;
-use text::bytes::smaller;
 
 // The first byte that says no state, and so do all behind it: one entry tells of them all.
 const NO_STATE: usize = LAST_CODE as usize + 1;
@@ -23,6 +22,7 @@ const HOLDINGS: [u64; ENTRIES] = [
 ];
 
 // Which moneys an order of a Paired shipment holds, by each byte of state. The table is made once for many rows, and lent.
+#[tactic(auto, unfolding(crate::specs::States::state_of, crate::specs::Inner::Holdings::holding_table))]
 pub fn holding_table() -> [u64; ENTRIES]
     ensures { result ≡ holding_table }
 {
@@ -38,9 +38,10 @@ pub fn holding(memory: &[u8], k: usize, table: &[u64]) -> u64
 }
 
 // Which moneys an order in the state that a byte says holds.
+#[tactic(auto, using(crate::proofs::HoldingLaws::holdings_long, crate::proofs::HoldingLaws::holding_there))]
 fn holding_of(code: u8, table: &[u64]) -> u64
     requires { table.now ≡ holding_table }
     ensures { result ≡ holding_of (state_of code) }
 {
-    table[smaller(code as usize, NO_STATE)]
+    table[usize::from(code).min(NO_STATE)]
 }

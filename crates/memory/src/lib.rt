@@ -46,7 +46,7 @@ pub fn shipments(memory: &[u8]) -> usize
     requires { size ≤ length memory.now }
     ensures { (result ≡ shipments_in memory.now) × (result < 256) }
 {
-    count(memory[0])
+    usize::from(memory[0])
 }
 
 // Stores the number of shipments.
@@ -55,11 +55,4 @@ pub fn store_shipments(memory: &mut [u8], n: usize)
     ensures { memory.new ≡ set memory.old 0 n }
 {
     memory[0] = n as u8;
-}
-
-// A byte as a count.
-fn count(byte: u8) -> usize
-    ensures { (result ≡ byte) × (result < 256) }
-{
-    byte as usize
 }

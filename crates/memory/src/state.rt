@@ -4,7 +4,6 @@ ghost use Rattle.memory.specs.States.{k_waits, o_waits, says_undelivered, says_w
 ghost use Rattle.memory.specs.Inner.Stored.{waits_code, code_of};
 
 use model::State;
-use text::bytes::is_between;
 
 // The last fault of an order.
 pub const LAST_FAULT: u8 = 10;
@@ -30,24 +29,25 @@ pub fn o_waits(code: u8) -> bool
 pub fn says_undelivered(code: u8) -> bool
     ensures { result ≡ says_undelivered code }
 {
-    is_between(4, 5, code)
+    (4..=5).contains(&code)
 }
 
 // Is it the byte of a Withdrawn order?
 pub fn says_withdrawn(code: u8) -> bool
     ensures { result ≡ says_withdrawn code }
 {
-    is_between(8, 11, code)
+    (8..=11).contains(&code)
 }
 
 // Is it the byte of a Faulty order?
 pub fn says_faulty(code: u8) -> bool
     ensures { result ≡ says_faulty code }
 {
-    is_between(12, LAST_CODE, code)
+    (12..=LAST_CODE).contains(&code)
 }
 
 // The state that a byte says.
+#[tactic(auto, using(text::proofs::Branches::branches, text::proofs::Branches::and_left), unfolding(crate::specs::States::state_of))]
 pub fn state_of(code: u8) -> State
     ensures { result ≡ state_of code }
 {

@@ -27,8 +27,8 @@ pub fn wait_table(route: Route, money: Money) -> [u8; 256]
     ensures { WaitTable route money result }
 {
     let mut table = [0u8; 256];
-    for code in 0..256 {
-        table[code] = wait_in(route, money, code as u8);
+    for (code, taken) in table.iter_mut().enumerate() {
+        *taken = wait_in(route, money, code as u8);
     }
     table
 }
@@ -39,9 +39,9 @@ pub fn store_return(memory: &mut [u8], k: usize, table: &[u8]) -> u64
     ensures { ((route : Route) (money : Money) → WaitTable route money table.now → RowReturned route money k memory.old memory.new result) × (result ≤ 2) }
 {
     let code = code(memory, k);
-    let taken = table[code as usize];
+    let taken = table[usize::from(code)];
     store_code(memory, k, code - taken);
-    taken as u64
+    u64::from(taken)
 }
 
 // What the wait of a money on a route adds to the byte, 0 where there is none.

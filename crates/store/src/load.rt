@@ -9,7 +9,7 @@ ghost use Rattle.store.specs.Inner.Unpack.{is_body, has_contents, given_row, Ord
 
 use crate::{ENTRY, FORM, ORDER, put_head};
 use memory::head::orders;
-use memory::number::{read_four, read_two, store_four, store_two};
+use memory::number::{read, store};
 use memory::row::store_code;
 use memory::{AMOUNTS, FEES, HEAD_SIZE, HEADS, MOST_ROWS, REMAINDERS, SIZE, store_shipments};
 use sound::is_sound;
@@ -115,7 +115,7 @@ fn is_entry(stored: &[u8], i: usize, start: u64, long: u64) -> bool
     ensures { result ≡ is_entry stored.now i start long }
 {
     let at = 2 + ENTRY * i;
-    read_four(stored, at) == start && read_four(stored, at + 4) == long
+    read::<4>(stored, at) == start && read::<4>(stored, at + 4) == long
 }
 
 // Unpacks the body at a place as shipment i, its rows from the k-th on.
@@ -147,8 +147,8 @@ fn store_order(memory: &mut [u8], k: usize, order: &[u8])
     requires { (k < most_rows) × (size ≤ length memory.old) × IsRow order.now }
     ensures { OrderStored order.now k memory.old memory.new }
 {
-    store_four(memory, AMOUNTS + 4 * k, read_four(order, 0));
-    store_four(memory, FEES + 4 * k, read_four(order, 5));
-    store_two(memory, REMAINDERS + 2 * k, read_two(order, 9));
+    store::<4>(memory, AMOUNTS + 4 * k, read::<4>(order, 0));
+    store::<4>(memory, FEES + 4 * k, read::<4>(order, 5));
+    store::<2>(memory, REMAINDERS + 2 * k, read::<2>(order, 9));
     store_code(memory, k, order[4]);
 }

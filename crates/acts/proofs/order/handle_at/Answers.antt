@@ -8,17 +8,17 @@ pub returns-then-not-is_paired : goal.returns-then-not-is_paired
 returns-then-not-is_paired c =
     unpaired_at _ _ _ _ _ c.head_bytes-head.ensures.0 c.is_paired.ensures c.if-not-is_paired.true
 
-pub returns-then-not-is_between : goal.returns-then-not-is_between
-returns-then-not-is_between c =
+pub returns-then-not-contains : goal.returns-then-not-contains
+returns-then-not-contains c =
     no_order_at c.args.memory.now c.args.i c.args.k c.args.deed c.args.number
-    c.head_bytes-head.ensures.0 c.is_paired.ensures c.if-not-is_paired.false c.orders.ensures.0 c.is_between.ensures
-    c.if-not-is_between.true
+    c.head_bytes-head.ensures.0 c.is_paired.ensures c.if-not-is_paired.false c.orders.ensures.0 (search rules)
+    c.if-not-contains.true
 
 pub overflow_sub-at : goal.overflow_sub-at
 overflow_sub-at c =
     from_one c.args.memory.now c.args.i c.args.k c.args.deed c.args.number
-    c.head_bytes-head.ensures.0 c.is_paired.ensures c.if-not-is_paired.false c.orders.ensures.0 c.is_between.ensures
-    c.if-not-is_between.false
+    c.head_bytes-head.ensures.0 c.is_paired.ensures c.if-not-is_paired.false c.orders.ensures.0 (search rules)
+    c.if-not-contains.false
 
 pub overflow_add-at : goal.overflow_add-at
 overflow_add-at c =
@@ -26,46 +26,46 @@ overflow_add-at c =
       fits = omega (
         arith,
         row_there c.args.memory.now c.args.i c.args.k c.args.deed c.args.number
-            c.head_bytes-head.ensures.0 c.is_paired.ensures c.if-not-is_paired.false c.orders.ensures.0 c.is_between.ensures
-            c.if-not-is_between.false c.requires,
+            c.head_bytes-head.ensures.0 c.is_paired.ensures c.if-not-is_paired.false c.orders.ensures.0 (search rules)
+            c.if-not-contains.false c.requires,
       );
     }
 
 pub fee-fee-requires : goal.fee-fee-requires
 fee-fee-requires c = (
   row_there c.args.memory.now c.args.i c.args.k c.args.deed c.args.number
-      c.head_bytes-head.ensures.0 c.is_paired.ensures c.if-not-is_paired.false c.orders.ensures.0 c.is_between.ensures
-      c.if-not-is_between.false c.requires,
+      c.head_bytes-head.ensures.0 c.is_paired.ensures c.if-not-is_paired.false c.orders.ensures.0 (search rules)
+      c.if-not-contains.false c.requires,
   search rules,
 )
 
 pub amount-amount-requires : goal.amount-amount-requires
 amount-amount-requires c = (
   row_there c.args.memory.now c.args.i c.args.k c.args.deed c.args.number
-      c.head_bytes-head.ensures.0 c.is_paired.ensures c.if-not-is_paired.false c.orders.ensures.0 c.is_between.ensures
-      c.if-not-is_between.false c.requires,
+      c.head_bytes-head.ensures.0 c.is_paired.ensures c.if-not-is_paired.false c.orders.ensures.0 (search rules)
+      c.if-not-contains.false c.requires,
   search rules,
 )
 
 pub state-state-requires : goal.state-state-requires
 state-state-requires c = (
   row_there c.args.memory.now c.args.i c.args.k c.args.deed c.args.number
-      c.head_bytes-head.ensures.0 c.is_paired.ensures c.if-not-is_paired.false c.orders.ensures.0 c.is_between.ensures
-      c.if-not-is_between.false c.requires,
+      c.head_bytes-head.ensures.0 c.is_paired.ensures c.if-not-is_paired.false c.orders.ensures.0 (search rules)
+      c.if-not-contains.false c.requires,
   search rules,
 )
 
 pub returns-then-not-does_fit : goal.returns-then-not-does_fit
 returns-then-not-does_fit c =
     unfit_at c.args.memory.now c.args.i c.args.k c.args.deed c.args.number
-    c.head_bytes-head.ensures.0 c.is_paired.ensures c.if-not-is_paired.false c.orders.ensures.0 c.is_between.ensures
-    c.if-not-is_between.false c.state-state.ensures c.does_fit.ensures c.if-not-does_fit.true
+    c.head_bytes-head.ensures.0 c.is_paired.ensures c.if-not-is_paired.false c.orders.ensures.0 (search rules)
+    c.if-not-contains.false c.state-state.ensures c.does_fit.ensures c.if-not-does_fit.true
 
 pub store_state-requires : goal.store_state-requires
 store_state-requires c = (
   row_there c.args.memory.now c.args.i c.args.k c.args.deed c.args.number
-      c.head_bytes-head.ensures.0 c.is_paired.ensures c.if-not-is_paired.false c.orders.ensures.0 c.is_between.ensures
-      c.if-not-is_between.false c.requires,
+      c.head_bytes-head.ensures.0 c.is_paired.ensures c.if-not-is_paired.false c.orders.ensures.0 (search rules)
+      c.if-not-contains.false c.requires,
   search rules,
 )
 
@@ -73,6 +73,6 @@ pub returns : goal.returns
 returns c =
     rw (c.store_state.ensures, c.state_after.ensures)
     (handled_at c.args.memory.now c.args.i c.args.k c.args.deed c.args.number
-    c.head_bytes-head.ensures.0 c.is_paired.ensures c.if-not-is_paired.false c.orders.ensures.0 c.is_between.ensures
-    c.if-not-is_between.false c.state-state.ensures c.does_fit.ensures
+    c.head_bytes-head.ensures.0 c.is_paired.ensures c.if-not-is_paired.false c.orders.ensures.0 (search rules)
+    c.if-not-contains.false c.state-state.ensures c.does_fit.ensures
     c.requires c.fee-fee.ensures.0 c.amount-amount.ensures.0 c.if-not-does_fit.false)

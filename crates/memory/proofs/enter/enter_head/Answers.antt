@@ -1,16 +1,13 @@
 -- `memory::enter::enter_head` stores the head made for it, which is read back.
 use mathlib.Core.Path.{◌≡◌}
 use lib.ListN.{length}
-use Rattle.memory.proofs.EnterLaws.{name_fits, head_entered}
+use Rattle.memory.proofs.EnterLaws.{head_entered}
 use borrow.Author.Rules.{rules}
 use Rattle.memory.proofs.enter.enter_head.Goals as goal
 use Rattle.memory.proofs.enter.enter_head.Goals.{Start}
 
 long : (c : Start) → length c.args.name.ident.bytes ≡ 17
 long c = search rules
-
-pub head_of-head-requires : goal.head_of-head-requires
-head_of-head-requires c = let fits = name_fits c.args.name c.requires.2 in (fits.len, fits.kind)
 
 pub returns : goal.returns
 returns c =

@@ -13,18 +13,18 @@ words : (head other : List ℕ) → IsHead head → IsHead other → ((j : ℕ) 
 words head other is_head is_other bytes others =
     by_words head other is_head is_other (λ j. omega (arith, bytes j)) (λ j. omega (arith, others j))
 
-pub returns-then-read_eight-2 : goal.returns-then-read_eight-2
-returns-then-read_eight-2 c =
-    rw (words c.args.head.now c.args.other.now c.requires.0 c.requires.1 c.type_inv.head c.type_inv.other, ← c.read_eight.ensures, ← c.read_eight-2.ensures)
-    (rw (← c.read_eight-then-read_eight.ensures, ← c.read_eight-then-read_eight-2.ensures, ← c.read_two.ensures.0, ← c.read_two-then-read_eight-2.ensures.0)
+pub returns-then-read-2 : goal.returns-then-read-2
+returns-then-read-2 c =
+    rw (words c.args.head.now c.args.other.now c.requires.0 c.requires.1 c.type_inv.head c.type_inv.other, ← c.read.ensures.0, ← c.read-2.ensures.0)
+    (rw (← c.read-then-read.ensures.0, ← c.read-then-read-2.ensures.0, ← c.read-then-read-2-2.ensures.0, ← c.read-then-read-2-3.ensures.0)
     (search branches depth 12))
 
-pub returns-else-read_eight-2 : goal.returns-else-read_eight-2
-returns-else-read_eight-2 c =
-    rw (words c.args.head.now c.args.other.now c.requires.0 c.requires.1 c.type_inv.head c.type_inv.other, ← c.read_eight.ensures, ← c.read_eight-2.ensures)
-    (rw (← c.read_eight-then-read_eight.ensures, ← c.read_eight-then-read_eight-2.ensures) (search branches depth 12))
+pub returns-else-read-2 : goal.returns-else-read-2
+returns-else-read-2 c =
+    rw (words c.args.head.now c.args.other.now c.requires.0 c.requires.1 c.type_inv.head c.type_inv.other, ← c.read.ensures.0, ← c.read-2.ensures.0)
+    (rw (← c.read-then-read.ensures.0, ← c.read-then-read-2.ensures.0) (search branches depth 12))
 
-pub returns-else-read_eight : goal.returns-else-read_eight
-returns-else-read_eight c =
-    rw (words c.args.head.now c.args.other.now c.requires.0 c.requires.1 c.type_inv.head c.type_inv.other, ← c.read_eight.ensures, ← c.read_eight-2.ensures)
+pub returns-else-read : goal.returns-else-read
+returns-else-read c =
+    rw (words c.args.head.now c.args.other.now c.requires.0 c.requires.1 c.type_inv.head c.type_inv.other, ← c.read.ensures.0, ← c.read-2.ensures.0)
     (search branches depth 12)

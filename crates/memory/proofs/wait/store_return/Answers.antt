@@ -1,19 +1,14 @@
 -- `memory::wait::store_return` stores the byte that a return leaves.
-use native.Mathlib.Omega.{arith}
 use Rattle.memory.proofs.ReturnLaws.{taken_few, taken_within, row_returned}
 use Rattle.memory.proofs.wait.store_return.Goals as goal
 
 pub overflow_sub-code : goal.overflow_sub-code
-overflow_sub-code c =
-    taken_within _ _ _ c.requires.2.is _ c.code-code.ensures.2
-
-pub overflow_cast-result : goal.overflow_cast-result
-overflow_cast-result c =
-    omega (arith, taken_few _ _ _ c.requires.2.is _ c.code-code.ensures.2)
+overflow_sub-code c = rw c.from.ensures (taken_within _ _ _ c.requires.2.is _ c.code-code.ensures.2)
 
 pub returns : goal.returns
-returns c = (
-  λ route money is.
-      rw c.store_code.ensures (row_returned route money _ is _ c.code-code.ensures.2 _ _ c.requires.0 c.requires.1 c.code-code.ensures.0),
-  taken_few _ _ _ c.requires.2.is _ c.code-code.ensures.2,
-)
+returns c =
+    rw (c.from-2.ensures, c.from.ensures) (
+      λ route money is.
+          rw (c.store_code.ensures, c.from.ensures) (row_returned route money _ is _ c.code-code.ensures.2 _ _ c.requires.0 c.requires.1 c.code-code.ensures.0),
+      taken_few _ _ _ c.requires.2.is _ c.code-code.ensures.2,
+    )

@@ -1,10 +1,6 @@
 -- `memory::wait::wait_table` tells one byte after the other.
-use Prim.Native.Nat.{◌-◌}
 use Rattle.memory.proofs.ReturnLaws.{RepliesBelow}
 use Rattle.memory.proofs.wait.wait_table.Given as goal
 
 abbrev pub invariant-loop-code : goal.invariant-loop-code
-invariant-loop-code l = RepliesBelow l.route l.money l.code l.table
-
-abbrev pub decreases-loop-code : goal.decreases-loop-code
-decreases-loop-code l = 256 - l.code
+invariant-loop-code l = RepliesBelow l.route l.money l.code l.taken-items

@@ -2,8 +2,8 @@
 use Rattle.text.proofs.Branches.{branches}
 use Rattle.store.proofs.load.is_entry.Goals as goal
 
-pub returns-then-read_four-start : goal.returns-then-read_four-start
-returns-then-read_four-start c = rw (← c.read_four-then-read_four-start.ensures.0, ← c.read_four.ensures.0) (search branches depth 8)
+pub returns-then-read-start : goal.returns-then-read-start
+returns-then-read-start c = rw (← c.read-then-read-start.ensures.0, ← c.read.ensures.0) (search branches depth 8)
 
-pub returns-else-read_four-start : goal.returns-else-read_four-start
-returns-else-read_four-start c = rw (← c.read_four.ensures.0) (search branches depth 8)
+pub returns-else-read-start : goal.returns-else-read-start
+returns-else-read-start c = rw (← c.read.ensures.0) (search branches depth 8)

@@ -5,9 +5,9 @@ use Rattle.store.proofs.load.store_order.Goals as goal
 
 pub returns : goal.returns
 returns c =
-    let is_amount = c.read_four.ensures in
-    let is_fee = c.read_four-2.ensures in
-    let is_remainder = c.read_two.ensures in
-    rw (c.store_code.ensures, c.store_two.ensures, c.store_four-2.ensures, c.store_four.ensures, is_amount.0, is_fee.0, is_remainder.0)
+    let is_amount = c.read.ensures in
+    let is_fee = c.read-2.ensures in
+    let is_remainder = c.read-3.ensures in
+    rw (c.store_code.ensures, c.store-3.ensures, c.store-2.ensures, c.store.ensures, is_amount.0, is_fee.0, is_remainder.0)
     (order_stored c.args.order.now c.args.k c.args.memory.now c.requires.0 c.requires.1 (omega (arith, is_amount.0, is_amount.1))
     (omega (arith, is_fee.0, is_fee.1)) (omega (arith, is_remainder.0, is_remainder.1)))

@@ -1,7 +1,0 @@
--- `memory::head::amounts_accepted` reads eight bytes.
-use mathlib.Core.Path.{ap, ◌∙◌}
-use Rattle.money.specs.Money.{amount}
-use Rattle.memory.proofs.head.amounts_accepted.Goals as goal
-
-pub returns : goal.returns
-returns c = c.sum.ensures ∙ ap amount c.read_eight.ensures
