@@ -26,61 +26,61 @@ use Rattle.memory.specs.Layout.{row_bytes}
 use Rattle.memory.specs.Rows.{row_of}
 use Rattle.memory.specs.Read.{rows_from}
 use Rattle.memory.specs.Inner.Classes.{class_of}
-use Rattle.memory.proofs.Columns.{rows_on, rows_done, Adding, adding_begun, adding_on, adding_done, adding_within}
+use Rattle.memory.proofs.Columns.{rows_on, rows_done, Adding, adding_begun, adding_next, adding_done, adding_within}
 use Rattle.sound.specs.declared.charges.Charges.{Charges}
 use Rattle.sound.specs.declared.charges.Products.{Products}
 use Rattle.sound.specs.Inner.Charges.{amount_fits, fee_fits, remainder_fits, is_flat, has_none, difference_of, is_even, Charged, Multiplied, WithProduct, SmallProducts}
 use Rattle.sound.specs.Inner.Tally.{joined}
 use Rattle.sound.proofs.ReadLaws.{rows_many}
 
--- The rows from the i-th on are left of the n from the k-th on: it is still to ask whether they pass a test.
-pub record Asking (test : Row → Bool) (m : List ℕ) (k n : ℕ) (fit : Bool) (i left : ℕ) : Type 0 where
-  pub place : i + left ≡ k + n
-  pub told : (fit && each test (rows_from m i left)) ≡ each test (rows_from m k n)
+-- The rows from the i-th on, up to an end.
+rows_more : (m : List ℕ) (i end : ℕ) → i < end → rows_from m i (end - i) ≡ row_of (row_bytes m i) ∷ rows_from m (i + 1) (end - (i + 1))
+rows_more m i end more =
+    let fewer : end - i - 1 ≡ end - (i + 1) = omega arith in
+    rw fewer at (rows_on m i (end - i) (omega arith))
+
+rows_none : (m : List ℕ) (i end : ℕ) → end ≤ i → rows_from m i (end - i) ≡ []
+rows_none m i end done = rows_done m i (end - i) (omega arith)
+
+-- It is still to ask of them whether they pass a test.
+abbrev pub Asking : (Row → Bool) → List ℕ → ℕ → ℕ → Bool → ℕ → Type 0
+Asking test m k n fit i = (fit && each test (rows_from m i (k + n - i))) ≡ each test (rows_from m k n)
 
 -- Or to join their classes.
-pub record Joining (m : List ℕ) (k n classes i left : ℕ) : Type 0 where
-  pub place : i + left ≡ k + n
-  pub classes_are : joined classes (rows_from m i left) ≡ joined 0 (rows_from m k n)
+abbrev pub Joining : List ℕ → ℕ → ℕ → ℕ → ℕ → Type 0
+Joining m k n classes i = joined classes (rows_from m i (k + n - i)) ≡ joined 0 (rows_from m k n)
 
 and_yes : (t : Bool) → (t && true) ≡ t
 and_yes true = refl
 and_yes false = refl
 
-module _ {test : Row → Bool} {m : List ℕ} {k n : ℕ} where
-  pub asking_begun : Asking test m k n true k n
-  asking_begun = record { place = refl; told = refl }
+from_first : (k n : ℕ) → k + n - k ≡ n
+from_first k n = omega arith
 
-  module _ {fit : Bool} {i left : ℕ} (going : Asking test m k n fit i left) where
-    pub asking_on : {answer : Bool} → 0 < left → answer ≡ test (row_of (row_bytes m i)) → Asking test m k n (fit && answer) (i + 1) (left - 1)
-    unfolding each
-    asking_on {answer} more is = record {
-      place = omega (arith, going.place);
-      told = ap (λ t. (fit && t) && each test (rows_from m (i + 1) (left - 1))) is
-          ∙ and_assoc fit (test (row_of (row_bytes m i))) (each test (rows_from m (i + 1) (left - 1)))
-          ∙ ap (λ rows. fit && each test rows) (sym (rows_on m i left more))
-          ∙ going.told;
-    }
+module _ (test : Row → Bool) (m : List ℕ) (k n : ℕ) where
+  pub asking_begun : Asking test m k n true k
+  asking_begun = rw (from_first k n)
 
-    pub asking_done : left ≤ 0 → fit ≡ each test (rows_from m k n)
-    unfolding each
-    asking_done done = sym (and_yes fit) ∙ ap (λ rows. fit && each test rows) (sym (rows_done m i left done)) ∙ going.told
+  pub asking_on : (fit : Bool) (i : ℕ) → i < k + n → Asking test m k n fit i → Asking test m k n (fit && test (row_of (row_bytes m i))) (i + 1)
+  unfolding each
+  asking_on fit i more going =
+      and_assoc fit (test (row_of (row_bytes m i))) (each test (rows_from m (i + 1) (k + n - (i + 1))))
+      ∙ ap (λ rows. fit && each test rows) (sym (rows_more m i (k + n) more))
+      ∙ going
 
-module _ {m : List ℕ} {k n : ℕ} where
-  pub joining_begun : Joining m k n 0 k n
-  joining_begun = record { place = refl; classes_are = refl }
+  pub asking_done : (fit : Bool) (i : ℕ) → k + n ≤ i → Asking test m k n fit i → fit ≡ each test (rows_from m k n)
+  unfolding each
+  asking_done fit i done going = sym (and_yes fit) ∙ ap (λ rows. fit && each test rows) (sym (rows_none m i (k + n) done)) ∙ going
 
-  module _ {classes i left : ℕ} (going : Joining m k n classes i left) where
-    pub joining_on : {class : ℕ} → 0 < left → class ≡ class_of (row_of (row_bytes m i)).state → Joining m k n (bit_or classes class) (i + 1) (left - 1)
-    joining_on more is = record {
-      place = omega (arith, going.place);
-      classes_are = ap (λ c. joined (bit_or classes c) (rows_from m (i + 1) (left - 1))) is
-          ∙ ap (joined classes) (sym (rows_on m i left more))
-          ∙ going.classes_are;
-    }
+module _ (m : List ℕ) (k n : ℕ) where
+  pub joining_begun : Joining m k n 0 k
+  joining_begun = rw (from_first k n)
 
-    pub joining_done : left ≤ 0 → classes ≡ joined 0 (rows_from m k n)
-    joining_done done = ap (joined classes) (sym (rows_done m i left done)) ∙ going.classes_are
+  pub joining_on : (classes i : ℕ) → i < k + n → Joining m k n classes i → Joining m k n (bit_or classes (class_of (row_of (row_bytes m i)).state)) (i + 1)
+  joining_on classes i more going = ap (joined classes) (sym (rows_more m i (k + n) more)) ∙ going
+
+  pub joining_done : (classes i : ℕ) → k + n ≤ i → Joining m k n classes i → classes ≡ joined 0 (rows_from m k n)
+  joining_done classes i done going = ap (joined classes) (sym (rows_none m i (k + n) done)) ∙ going
 
 -- two tests of each, and a test that is another
 four_ways : (a b s t : Bool) → ((a && b) && (s && t)) ≡ ((a && s) && (b && t))
@@ -149,10 +149,10 @@ flat_sum flat (row ∷ rows) h =
     omega (arith, suc-mul (length rows) flat)
 
 -- The products of rows, one after the other: what is added and joined, with what is still to take, is the whole.
-pub record Multiplying (terms : Terms) (m : List ℕ) (k n : ℕ) (products : Products) (i left : ℕ) : Type 0 where
-  pub amounts : Adding K m k n products.amounts.0 i left
-  pub fees : Adding O m k n products.fees.0 i left
-  pub even : Asking (is_even terms) m k n (eqb products.differences 0) i left
+pub record Multiplying (terms : Terms) (m : List ℕ) (k n : ℕ) (products : Products) (i : ℕ) : Type 0 where
+  pub amounts : Adding K m k n products.amounts.0 i (k + n - i)
+  pub fees : Adding O m k n products.fees.0 i (k + n - i)
+  pub even : Asking (is_even terms) m k n (eqb products.differences 0) i
 
 none_joined : (a b : ℕ) → eqb (bit_or a b) 0 ≡ (eqb a 0 && eqb b 0)
 none_joined a b =
@@ -166,33 +166,37 @@ none_joined a b =
     eq-eqb (bit_or a b) 0 (omega (arith, or_add_and a b)))
 
 module _ {terms : Terms} {m : List ℕ} {k n : ℕ} where
-  pub multiplying_begun : Multiplying terms m k n (record { amounts = amount 0; fees = fee 0; differences = 0 }) k n
-  multiplying_begun = record { amounts = adding_begun; fees = adding_begun; even = asking_begun }
+  pub multiplying_begun : Multiplying terms m k n (record { amounts = amount 0; fees = fee 0; differences = 0 }) k
+  multiplying_begun =
+      let all = from_first k n in
+      record { amounts = rw all adding_begun; fees = rw all adding_begun; even = asking_begun (is_even terms) m k n }
 
-  module _ {products : Products} {i left : ℕ} (going : Multiplying terms m k n products i left) where
-    pub products_small : k + n ≤ most_rows → 0 < left → SmallProducts products
+  module _ {products : Products} {i : ℕ} (going : Multiplying terms m k n products i) where
+    pub products_small : k + n ≤ most_rows → i < k + n → SmallProducts products
     products_small room more = record { amounts = omega (arith, going.amounts.low); fees = omega (arith, going.fees.low) }
 
-    pub multiplying_on : {next : Products} → 0 < left → WithProduct terms products (row_of (row_bytes m i)) next → Multiplying terms m k n next (i + 1) (left - 1)
+    pub multiplying_on : {next : Products} → i < k + n → WithProduct terms products (row_of (row_bytes m i)) next → Multiplying terms m k n next (i + 1)
     multiplying_on {next} more one =
         let row = row_of (row_bytes m i) in
         record {
-          amounts = adding_on going.amounts more refl one.amount_low one.amounts_are;
-          fees = adding_on going.fees more refl one.fee_low one.fees_are;
+          amounts = adding_next going.amounts refl more one.amount_low one.amounts_are;
+          fees = adding_next going.fees refl more one.fee_low one.fees_are;
           even =
-              subst (λ t. Asking (is_even terms) m k n t (i + 1) (left - 1))
+              subst (λ t. Asking (is_even terms) m k n t (i + 1))
               (sym (ap (λ (d : ℕ). eqb d 0) one.differences_are ∙ none_joined products.differences (difference_of terms row)))
-              (asking_on going.even more refl);
+              (asking_on (is_even terms) m k n (eqb products.differences 0) i more going.even);
         }
 
-    pub multiplied : left ≤ 0 → n ≤ most_rows → Multiplied terms (rows_from m k n) products
-    multiplied done few = record {
-      amounts_are = ap amount (adding_done going.amounts done);
-      fees_are = ap fee (adding_done going.fees done);
-      told = asking_done going.even done;
-      amounts_low = adding_within going.amounts few;
-      fees_low = adding_within going.fees few;
-    }
+    pub multiplied : k + n ≤ i → n ≤ most_rows → Multiplied terms (rows_from m k n) products
+    multiplied done few =
+        let none : k + n - i ≤ 0 = omega arith in
+        record {
+          amounts_are = ap amount (adding_done going.amounts none);
+          fees_are = ap fee (adding_done going.fees none);
+          told = asking_done (is_even terms) m k n (eqb products.differences 0) i done going.even;
+          amounts_low = adding_within going.amounts few;
+          fees_low = adding_within going.fees few;
+        }
 
 -- what is found without a rate, and with one
 pub fees_within_lem : (n : ℕ) (flat : ℕ) → n ≤ most_rows → WithinOrder flat → WithinSum (n * flat)
@@ -227,9 +231,3 @@ module _ (m : List ℕ) (k n : ℕ) where
     amounts_low = all.amounts_low;
     fees_low = all.fees_low;
   }
-
--- terms without a rate
-pub none_rated : {terms : Terms} {l : List Row} {charges : Charges} → terms.rate.0 ≡ 0 → Charged (record { flat = terms.flat; rate = rate 0 }) l charges
-    → Charged terms l charges
-none_rated {terms} {l} {charges} none found =
-    subst (λ (one : Terms). Charged one l charges) (λ i. record { flat = terms.flat; rate = record { 0 = sym none i } }) found

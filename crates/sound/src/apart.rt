@@ -8,36 +8,32 @@ use memory::head::head_bytes;
 use memory::name::are_namesakes;
 
 // Are the identifiers of n heads all different?
+#[tactic(auto, using(text::proofs::Branches::branches, crate::proofs::HeadByHead::apart_more, crate::proofs::HeadByHead::apart_all))]
 pub fn are_apart(memory: &[u8], n: usize) -> bool
     requires { (n ≤ most_shipments) × (size ≤ length memory.now) }
     ensures { result ≡ apart_from memory.now 0 n }
 {
-    let mut i = 0;
-    let mut left = n;
-    while 0 < left {
-        if !are_others(memory, i, i + 1, left - 1) {
+    // Kept: 6c: the walk of `are_others` again, and its proof.
+    for i in 0..n {
+        if !are_others(memory, i, i + 1, n - (i + 1)) {
             return false;
         }
-        i += 1;
-        left -= 1;
     }
     true
 }
 
 // Have n heads from the j-th on another identifier than head i?
+#[tactic(auto, using(text::proofs::Branches::branches, crate::proofs::HeadByHead::others_more, crate::proofs::HeadByHead::others_all))]
 fn are_others(memory: &[u8], i: usize, from: usize, n: usize) -> bool
     requires { (i < most_shipments) × (from + n ≤ most_shipments) × (size ≤ length memory.now) }
     ensures { result ≡ others_from (head_bytes memory.now i) memory.now from n }
 {
     let head = head_bytes(memory, i);
-    let mut j = from;
-    let mut left = n;
-    while 0 < left {
+    // Kept: 3c, 6c: tried as `all` over the numbers, and what that says of each number did not prove: `grind` stopped at its own limit of instances of lemmas.
+    for j in from..from + n {
         if are_namesakes(head, head_bytes(memory, j)) {
             return false;
         }
-        j += 1;
-        left -= 1;
     }
     true
 }

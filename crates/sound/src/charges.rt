@@ -1,13 +1,14 @@
 // What the orders of a shipment are charged: their amounts and fees added up, and whether each has an amount in range, and its fee.
-ghost use Rattle.std.specs.Prelude.{◌≡◌, ◌&&◌, ◌+◌, ◌≤◌, ◌<◌, length};
+ghost use Rattle.std.specs.Prelude.{◌≡◌, Bool, ◌&&◌, List, ℕ, ◌+◌, ◌≤◌, ◌<◌, length};
 ghost use Rattle.fee.specs.Fee.{TermsFit};
 ghost use Rattle.epe.specs.Profile.{each};
 ghost use Rattle.model.specs.Shipment.{most_rows};
+ghost use Rattle.model.specs.declared.Row.{Row};
 ghost use Rattle.memory.specs.Layout.{size, row_bytes};
 ghost use Rattle.memory.specs.Rows.{row_of};
 ghost use Rattle.memory.specs.Read.{rows_from};
 ghost use Rattle.money.specs.Money.{WithinOrder};
-ghost use Rattle.sound.specs.Inner.Charges.{amount_fits, fee_fits, remainder_fits, is_flat, has_none, Charged, WithProduct, SmallProducts, Multiplied};
+ghost use Rattle.sound.specs.Inner.Charges.{amount_fits, fee_fits, remainder_fits, is_flat, has_none, Tells, Charged, WithProduct, SmallProducts, Multiplied};
 
 use fee::{Rate, Terms, difference};
 use memory::column::amounts_in;
@@ -56,6 +57,7 @@ fn flat_charges(memory: &[u8], k: usize, n: usize, flat: Fee) -> Charges
 }
 
 // Those with a rate.
+#[tactic(auto, using(crate::proofs::Tallying::rated_charged))]
 fn rated_charges(memory: &[u8], k: usize, n: usize, terms: Terms) -> Charges
     requires { (k + n ≤ most_rows) × (size ≤ length memory.now) × TermsFit terms }
     ensures { Charged terms (rows_from memory.now k n) result }
@@ -76,7 +78,9 @@ fn are_charged_flat(memory: &[u8], k: usize, n: usize, flat: Fee) -> bool
     requires { (k + n ≤ most_rows) × (size ≤ length memory.now) }
     ensures { result ≡ (each amount_fits (rows_from memory.now k n) && (each (is_flat flat.0) (rows_from memory.now k n) && each has_none (rows_from memory.now k n))) }
 {
-    are_amounts(memory, k, n) && (are_flat(memory, k, n, flat) && have_no_remainders(memory, k, n))
+    are_amounts(memory, k, n)
+        && (do_all_pass(k, n, |i| fee(memory, i).0 == flat.0)
+            && do_all_pass(k, n, |i| remainder(memory, i) == 0))
 }
 
 // Are amount, fee and remainder of each in range?
@@ -84,10 +88,13 @@ fn are_in_range(memory: &[u8], k: usize, n: usize) -> bool
     requires { (k + n ≤ most_rows) × (size ≤ length memory.now) }
     ensures { result ≡ (each amount_fits (rows_from memory.now k n) && (each fee_fits (rows_from memory.now k n) && each remainder_fits (rows_from memory.now k n))) }
 {
-    are_amounts(memory, k, n) && (are_fees(memory, k, n) && are_remainders(memory, k, n))
+    are_amounts(memory, k, n)
+        && (do_all_pass(k, n, |i| Fee::is_order(fee(memory, i).0))
+            && do_all_pass(k, n, |i| remainder(memory, i) < Rate::CAP))
 }
 
 // The products of the n rows from the k-th on.
+#[tactic(auto, using(crate::proofs::Tallying::multiplying_begun, crate::proofs::Tallying::products_small, crate::proofs::Tallying::multiplied))]
 fn products_in(memory: &[u8], k: usize, n: usize, terms: Terms) -> Products
     requires { (k + n ≤ most_rows) × (size ≤ length memory.now) × TermsFit terms }
     ensures { Multiplied terms (rows_from memory.now k n) result }
@@ -99,12 +106,9 @@ fn products_in(memory: &[u8], k: usize, n: usize, terms: Terms) -> Products
         fees: no_fee,
         differences: 0,
     };
-    let mut i = k;
-    let mut left = n;
-    while 0 < left {
+    // Kept: 3c: a row lies in columns, so there is no slice of rows to walk.
+    for i in k..k + n {
         products = with_product(products, memory, i, terms);
-        i += 1;
-        left -= 1;
     }
     products
 }
@@ -131,77 +135,18 @@ fn are_amounts(memory: &[u8], k: usize, n: usize) -> bool
     requires { (k + n ≤ most_rows) × (size ≤ length memory.now) }
     ensures { result ≡ each amount_fits (rows_from memory.now k n) }
 {
-    let mut fit = true;
-    let mut i = k;
-    let mut left = n;
-    while 0 < left {
-        fit = fit & Amount::is_order(amount(memory, i).0);
-        i += 1;
-        left -= 1;
-    }
-    fit
+    do_all_pass(k, n, |i| Amount::is_order(amount(memory, i).0))
 }
 
-// Is each fee?
-fn are_fees(memory: &[u8], k: usize, n: usize) -> bool
-    requires { (k + n ≤ most_rows) × (size ≤ length memory.now) }
-    ensures { result ≡ each fee_fits (rows_from memory.now k n) }
+// Do all of the n rows from the k-th on pass a test?
+fn do_all_pass<F: Fn(usize) -> bool>(k: usize, n: usize, test: F) -> bool
+    requires room { k + n ≤ most_rows }
+    requires callable { (i : ℕ) → i < most_rows → F.pre test i }
+    ensures { (m : List ℕ) (asked : Row → Bool) → Tells (F.post test) m asked → result ≡ each asked (rows_from m k n) }
 {
     let mut fit = true;
-    let mut i = k;
-    let mut left = n;
-    while 0 < left {
-        fit = fit & Fee::is_order(fee(memory, i).0);
-        i += 1;
-        left -= 1;
-    }
-    fit
-}
-
-// Is each remainder?
-fn are_remainders(memory: &[u8], k: usize, n: usize) -> bool
-    requires { (k + n ≤ most_rows) × (size ≤ length memory.now) }
-    ensures { result ≡ each remainder_fits (rows_from memory.now k n) }
-{
-    let mut fit = true;
-    let mut i = k;
-    let mut left = n;
-    while 0 < left {
-        fit = fit & (remainder(memory, i) < Rate::CAP);
-        i += 1;
-        left -= 1;
-    }
-    fit
-}
-
-// Is each fee the flat part?
-fn are_flat(memory: &[u8], k: usize, n: usize, flat: Fee) -> bool
-    requires { (k + n ≤ most_rows) × (size ≤ length memory.now) }
-    ensures { result ≡ each (is_flat flat.0) (rows_from memory.now k n) }
-{
-    let mut fit = true;
-    let mut i = k;
-    let mut left = n;
-    while 0 < left {
-        fit = fit & (fee(memory, i).0 == flat.0);
-        i += 1;
-        left -= 1;
-    }
-    fit
-}
-
-// Is there no remainder?
-fn have_no_remainders(memory: &[u8], k: usize, n: usize) -> bool
-    requires { (k + n ≤ most_rows) × (size ≤ length memory.now) }
-    ensures { result ≡ each has_none (rows_from memory.now k n) }
-{
-    let mut fit = true;
-    let mut i = k;
-    let mut left = n;
-    while 0 < left {
-        fit = fit & (remainder(memory, i) == 0);
-        i += 1;
-        left -= 1;
+    for i in k..k + n {
+        fit &= test(i);
     }
     fit
 }

@@ -14,6 +14,7 @@ use crate::shipment::are_sound;
 use memory::{MOST_SHIPMENTS, SIZE, shipments};
 
 // Is the memory a sound book?
+#[tactic(auto, using(text::proofs::Branches::branches, crate::proofs::WalkIsSound::as_walked), unfolding(memory::specs::Read::sound_in))]
 pub fn is_sound(memory: &[u8]) -> bool
     ensures { result ≡ sound_in memory.now }
 {

@@ -18,25 +18,24 @@ use memory::name::has_name_in_form;
 use money::{Fee, Sum};
 
 // Are n shipments sound, each by itself?
+#[tactic(auto, using(text::proofs::Branches::branches, crate::proofs::HeadByHead::sound_more, crate::proofs::HeadByHead::sound_all, crate::proofs::HeadByHead::sound_room))]
 pub fn are_sound(memory: &[u8], n: usize) -> bool
     requires { (n ≤ most_shipments) × (size ≤ length memory.now) }
     ensures { result ≡ sound_from memory.now 0 0 n }
 {
-    let mut i = 0;
     let mut k = 0;
-    let mut left = n;
-    while 0 < left {
+    // Kept: 3c, 6c: the rows of a shipment begin where those before it end, and `all` does not carry a place along.
+    for i in 0..n {
         if !is_sound_at(memory, i, k) {
             return false;
         }
         k += orders(head_bytes(memory, i)) as usize;
-        i += 1;
-        left -= 1;
     }
     true
 }
 
 // Is the shipment of head i sound, its rows from the k-th on?
+#[tactic(auto, using(text::proofs::Branches::told, fee::proofs::Charged::terms_within, crate::proofs::JudgedIsSound::flags_wrong, crate::proofs::JudgedIsSound::no_room, crate::proofs::JudgedIsSound::name_wrong, crate::proofs::JudgedIsSound::terms_wrong, crate::proofs::JudgedIsSound::sound_as_judged))]
 fn is_sound_at(memory: &[u8], i: usize, k: usize) -> bool
     requires { (i < most_shipments) × (k ≤ most_rows) × (size ≤ length memory.now) }
     ensures { result ≡ sound_at memory.now i k }
@@ -67,6 +66,7 @@ fn do_terms_fit(terms: Terms) -> bool
 }
 
 // Is a shipment of n orders sound, but for its name and its terms?
+#[tactic(auto, using(text::proofs::Branches::branches), unfolding(crate::specs::Inner::Tally::judged))]
 fn judge(head: &[u8], n: u64, tally: Tally) -> bool
     requires { IsHead head.now × WithinSum tally.charges.amounts.0 × WithinSum tally.charges.fees.0 }
     ensures { result ≡ judged head.now n tally }
@@ -77,6 +77,7 @@ fn judge(head: &[u8], n: u64, tally: Tally) -> bool
 }
 
 // May the shipment, Paired or not, have such rows?
+#[tactic(auto, using(text::proofs::Branches::branches), unfolding(crate::specs::Inner::Tally::rows_fit))]
 fn do_rows_fit(head: &[u8], tally: Tally) -> bool
     requires { IsHead head.now }
     ensures { result ≡ rows_fit head.now tally }
@@ -91,6 +92,7 @@ fn do_rows_fit(head: &[u8], tally: Tally) -> bool
 }
 
 // Does the go-ahead, or none, fit the faults?
+#[tactic(auto, using(text::proofs::Branches::branches), unfolding(crate::specs::Inner::Tally::go_ahead_fits))]
 fn does_go_ahead_fit(head: &[u8], tally: Tally) -> bool
     requires { IsHead head.now }
     ensures { result ≡ go_ahead_fits head.now tally }
@@ -106,6 +108,7 @@ fn does_go_ahead_fit(head: &[u8], tally: Tally) -> bool
 }
 
 // Do the sums of both moneys fit?
+#[tactic(auto, using(text::proofs::Branches::branches), unfolding(money::specs::Money::grosze_in, crate::specs::Inner::Tally::moneys_fit, money::specs::Money::money_of_sum))]
 fn do_moneys_fit(head: &[u8], tally: Tally) -> bool
     requires { IsHead head.now × WithinSum tally.charges.amounts.0 × WithinSum tally.charges.fees.0 }
     ensures { result ≡ moneys_fit head.now tally }
@@ -116,6 +119,7 @@ fn do_moneys_fit(head: &[u8], tally: Tally) -> bool
 }
 
 // Do the sums of a money fit, for what is needed of it?
+#[tactic(auto, using(money::proofs::Sums::grosze_is, crate::proofs::JudgedIsSound::money_wrong, crate::proofs::JudgedIsSound::money_right, crate::proofs::JudgedIsSound::sums_are, crate::proofs::JudgedIsSound::only_if_within))]
 fn does_money_fit(head: &[u8], need: Sum) -> bool
     requires { IsHead head.now × WithinSum (grosze_in need) }
     ensures { result ≡ money_fits head.now (money_of_sum need) (grosze_in need) }
@@ -133,6 +137,7 @@ fn does_money_fit(head: &[u8], need: Sum) -> bool
 }
 
 // What is needed once the shipment is Paired, and nothing before.
+#[tactic(auto, using(text::proofs::Branches::told, money::proofs::Sums::whole_sum))]
 fn need_once_paired(head: &[u8], need: Sum) -> Sum
     requires { IsHead head.now }
     ensures { result ≡ sum_of (money_of_sum need) (only_if (paired_in head.now) (grosze_in need)) }
@@ -144,6 +149,7 @@ fn need_once_paired(head: &[u8], need: Sum) -> Sum
 }
 
 // Is what was accepted at least what was returned and is needed, and nothing returned while Waiting?
+#[tactic(auto, using(text::proofs::Branches::branches), unfolding(crate::specs::Inner::Tally::is_covered))]
 fn is_covered(accepted: Sum, returned: Sum, need: Sum, waiting: bool) -> bool
     requires { WithinSum (grosze_in returned) × WithinSum (grosze_in need) }
     ensures { result ≡ is_covered (grosze_in accepted) (grosze_in returned) (grosze_in need) waiting }

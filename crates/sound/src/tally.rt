@@ -41,17 +41,15 @@ pub fn has_faulty(tally: Tally) -> bool
 }
 
 // The classes of the states of the n rows from the k-th on, joined.
+#[tactic(auto, using(crate::proofs::Tallying::joining_begun, crate::proofs::Tallying::joining_on, crate::proofs::Tallying::joining_done))]
 fn classes_in(memory: &[u8], k: usize, n: usize) -> u8
     requires { (k + n ≤ most_rows) × (size ≤ length memory.now) }
     ensures { result ≡ joined 0 (rows_from memory.now k n) }
 {
     let mut classes = 0;
-    let mut i = k;
-    let mut left = n;
-    while 0 < left {
+    // Kept: 3c: a row lies in columns, so there is no slice of rows to walk.
+    for i in k..k + n {
         classes |= class(memory, i);
-        i += 1;
-        left -= 1;
     }
     classes
 }
