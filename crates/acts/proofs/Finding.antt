@@ -1,6 +1,6 @@
 -- A place that is found is that of a shipment of the book.
 -- Assumes nothing.
-use mathlib.Core.Path.{◌≡◌, refl, sym, ap, ◌∙◌}
+use mathlib.Core.Path.{◌≡◌, sym, ap, ◌∙◌}
 use mathlib.Core.Bool.{Bool, true, false}
 use mathlib.Core.List.{List}
 use Prim.Native.Nat.{ℕ, zero, suc, ◌+◌, ◌-◌, ◌≤◌, ◌<◌}
@@ -44,34 +44,26 @@ module _ (is : List ℕ → Bool) (m : List ℕ) where
       (λ other. never_unsound (suc j) (s + orders_at m j) n (rw other at e))
 
 -- as code looks: head after head
-module _ (is : List ℕ → Bool) (m : List ℕ) {head : List ℕ} {t : Bool} (i k left : ℕ)
-    (is_head : head ≡ head_bytes m i) (told : t ≡ is head) (more : 0 < left) where
+module _ (is : List ℕ → Bool) (m : List ℕ) {head : List ℕ} {t : Bool} (i k n : ℕ) (is_head : head ≡ head_bytes m i) (told : t ≡ is head) (more : i < n) where
   test_is : is (head_bytes m i) ≡ t
   test_is = sym (told ∙ ap is is_head)
 
-  pub found_here : t ≡ true → place_from is m i k left ≡ At i k
+  left : n - i ≡ suc (n - (i + 1))
+  left = omega arith
+
+  pub found_here : t ≡ true → place_from is m i k (n - i) ≡ At i k
   unfolding place_from
-  found_here fits = by left more
-    where
-      by : (left : ℕ) → 0 < left → place_from is m i k left ≡ At i k
-      by zero h = absurd (omega arith)
-      by (suc n) h = rw (test_is ∙ fits)
+  found_here fits = rw left (rw (test_is ∙ fits))
 
-  pub looked_on : {n : ℕ} → n ≡ order_count_in head → t ≡ false → place_from is m (i + 1) (k + n) (left - 1) ≡ place_from is m i k left
+  pub looked_on : {rows : ℕ} → rows ≡ order_count_in head → t ≡ false → place_from is m (i + 1) (k + rows) (n - (i + 1)) ≡ place_from is m i k (n - i)
   unfolding place_from
-  looked_on {n} orders other = by left more
-    where
-      count : n ≡ orders_at m i
-      count = orders ∙ ap order_count_in is_head
+  looked_on {rows} orders other =
+      let count : rows ≡ orders_at m i = orders ∙ ap order_count_in is_head in
+      rw left (rw (test_is ∙ other, add-one, count))
 
-      by : (left : ℕ) → 0 < left → place_from is m (i + 1) (k + n) (left - 1) ≡ place_from is m i k left
-      by zero h = absurd (omega arith)
-      by (suc rest) h = let fewer : suc rest - 1 ≡ rest = omega arith in rw (fewer, add-one, count, test_is ∙ other)
-
-pub none_left : (is : List ℕ → Bool) (m : List ℕ) (i k left : ℕ) → left ≤ 0 → place_from is m i k left ≡ Unknown
+pub none_left : (is : List ℕ → Bool) (m : List ℕ) (i k n : ℕ) → n ≤ i → place_from is m i k (n - i) ≡ Unknown
 unfolding place_from
-none_left is m i k zero h = refl
-none_left is m i k (suc n) h = absurd (omega arith)
+none_left is m i k n h = let none : n - i ≡ 0 = omega arith in rw none
 
 -- What that says of the place.
 pub record Within (m : List ℕ) (i k j s n : ℕ) : Type 0 where

@@ -14,3 +14,4 @@ pub mod PairingActs
 pub mod Orders
 pub mod Returns
 pub mod SurplusActs
+pub mod RowsTaken

@@ -6,6 +6,6 @@ pub mod order;
 pub mod place;
 pub mod refusals;
 pub mod route;
-mod rows;
+pub mod rows;
 pub mod shipment;
 mod surplus;

@@ -53,17 +53,13 @@ pub fn find_called(memory: &[u8], ident: Ident, n: usize) -> Place
     requires { (n ≤ most_shipments) × (size ≤ length memory.now) }
     ensures { result ≡ place_from (called_in ident) memory.now 0 0 n }
 {
-    let mut i = 0;
     let mut k = 0;
-    let mut left = n;
-    while 0 < left {
+    for i in 0..n {
         let head = head_bytes(memory, i);
         if is_called(head, ident) {
             return Place::At(i, k);
         }
         k += orders(head) as usize;
-        i += 1;
-        left -= 1;
     }
     Place::Unknown
 }

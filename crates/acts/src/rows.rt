@@ -1,25 +1,36 @@
-// The rows of a shipment taken together: whether any is Faulty.
-// The loop asks no row a question, so that many rows are taken at a time.
-ghost use Rattle.std.specs.Prelude.{◌≡◌, ◌+◌, ◌≤◌, length};
-ghost use Rattle.model.specs.Shipment.{most_rows, any_faulty};
+// Rows taken together: how many shipments have, and whether any of one is Faulty.
+ghost use Rattle.std.specs.Prelude.{◌≡◌, ◌+◌, ◌*◌, ◌≤◌, length};
+ghost use Rattle.model.specs.Shipment.{most_shipments, most_rows, any_faulty};
+ghost use Rattle.model.specs.Book.{rows_in};
 ghost use Rattle.memory.specs.Layout.{size};
-ghost use Rattle.memory.specs.Read.{rows_from};
+ghost use Rattle.memory.specs.Read.{rows_from, shipments_from};
 ghost use Rattle.acts.specs.Inner.Waiting.{SoundInWaiting};
 
+use memory::head::{head_bytes, orders};
 use memory::row::code;
 
-// Is any of the n rows from the k-th on Faulty? The shipment is Waiting, so that all others are Open, and Open has no bit in its byte.
+// How many rows n shipments have.
+pub fn rows_of(memory: &[u8], n: usize) -> usize
+    requires { (n ≤ most_shipments) × (size ≤ length memory.now) }
+    ensures value { result ≡ rows_in (shipments_from memory.now 0 0 n) }
+    ensures at_most { result ≤ n * 65_536 }
+{
+    let mut k = 0;
+    for i in 0..n {
+        k += orders(head_bytes(memory, i)) as usize;
+    }
+    k
+}
+
+// Is any of the n rows from the k-th on Faulty? The shipment is Waiting, so that all others are Open, and Open has no bit in its byte. No row is asked a
+// question, so that many are taken at a time.
 pub fn has_faulty_in(memory: &[u8], k: usize, n: usize) -> bool
     requires { (k + n ≤ most_rows) × (size ≤ length memory.now) × SoundInWaiting (rows_from memory.now k n) }
     ensures { result ≡ any_faulty (rows_from memory.now k n) }
 {
-    let mut bits = 0u8;
-    let mut i = k;
-    let mut left = n;
-    while 0 < left {
+    let mut bits = 0;
+    for i in k..k + n {
         bits |= code(memory, i);
-        i += 1;
-        left -= 1;
     }
     0 < bits
 }

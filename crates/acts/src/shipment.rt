@@ -19,7 +19,7 @@ use memory::head::{
     store_accepted, store_go_ahead, store_stage,
 };
 use model::Stage;
-use money::{Amount, Fee, Sum};
+use money::{Amount, Fee, Grosze, Sum};
 
 // Takes a transfer to the shipment at a place.
 pub fn transfer_at(memory: &mut [u8], i: usize, k: usize, sum: Sum) -> Completion
@@ -29,7 +29,7 @@ pub fn transfer_at(memory: &mut [u8], i: usize, k: usize, sum: Sum) -> Completio
     let money = sum.money();
     let before = accepted(head_bytes(memory, i), money);
     let total = before.grosze() + sum.grosze();
-    if !Sum::is_sum(money, total) {
+    if !Amount::is_sum(total) {
         return Completion::Refused(refusals::TOTAL_ACCEPTED);
     }
     store_accepted(memory, i, Sum::of(money, total));

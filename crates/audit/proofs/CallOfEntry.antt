@@ -13,14 +13,14 @@ use Rattle.text.proofs.Branches.{and_right, either_way}
 use Rattle.calendar.specs.Calendar.{real}
 use Rattle.money.specs.declared.Money.{Money}
 use Rattle.epe.specs.Ident.{ident_of}
-use Rattle.epe.specs.Questions.{first_no}
+use Rattle.epe.specs.Questions.{Refused, first_no}
 use Rattle.epe.specs.Profile.{fees_fit, profile_fits, profile_questions}
 use Rattle.epe.specs.declared.profile.Profile.{Profile}
-use Rattle.epe.specs.declared.verdict.Verdict.TheVariants.{Refused}
 use Rattle.epe.proofs.QuestionLaws.{asked_no}
 use Rattle.model.specs.Calls.{GoAhead, Pair, Close, OnOrder, Return, Intake, Transfer, On}
 use Rattle.model.specs.declared.Deed.TheVariants.{Post, Pay, MarkUndelivered, Withdraw}
 use Rattle.model.specs.declared.Route.{Route}
+use Rattle.book.proofs.Telling.{plays_same}
 use Rattle.book.specs.Numbers.{route_of, money_of}
 use Rattle.audit.specs.Journal.{call_byte, entry_number, entry_text, profile_in, act_in, call_in, entry_length, is_call, has_no_more, call_known, entry_fits}
 
@@ -99,3 +99,11 @@ module _ (entry : List ℕ) where
       on_withdraw above below not_post not_pay not_undelivered =
           let first : call_byte entry ≡ 8 = omega arith in
           rw (id_is, number_is, first)
+
+-- by which an entry is played, and one on an order
+pub ruleset calls = (plays_same, is_intake_lem, is_transfer_lem, is_act)
+
+pub ruleset on_orders = (plays_same, on_post, on_pay, on_undelivered, on_withdraw)
+
+-- and one on a shipment
+pub ruleset acts = (plays_same, call_known_lem, on_an_order, on_go_ahead, on_pair, on_close, on_return)

@@ -5,7 +5,7 @@ use mathlib.Core.Bool.{true, false}
 use mathlib.Core.List.{List, [], ◌∷◌, ◌++◌, map}
 use Prim.Native.Nat.{ℕ, zero, suc, ◌+◌}
 use lib.ListN.{length, take, replicate}
-use Rattle.text.specs.Bytes.{letter, digit, letter_or_digit, letters_or_digits}
+use Rattle.text.specs.Bytes.{letter, digit, letter_or_digit}
 use Rattle.text.specs.Quoted.{bytes}
 use Rattle.fee.specs.Fee.{rate}
 use Rattle.epe.specs.Ident.{identifier, ident_of}
@@ -20,7 +20,7 @@ journal =
     ++ (3 ∷ 0 ∷ 1 ∷ 3 ∷ replicate 7 0) ++ bytes "ZS1"
 
 calls_are_read : calls_in journal ≡ Transfer (bytes "EPEZZS1-201007-A-0-K") 17_549 ∷ On (ident_of (bytes "ZS1")) Pair ∷ []
-unfolding journal calls_in calls_from call_in act_in entry_number text_length text_start entry_length number_at ident_of identifier letter digit letter_or_digit letters_or_digits
+unfolding journal calls_in calls_from call_in act_in entry_number text_length text_start entry_length number_at ident_of identifier letter digit letter_or_digit
 calls_are_read = refl
 
 fits : journal_fits journal ≡ true

@@ -3,35 +3,14 @@
 use mathlib.Core.Path.{◌≡◌, ap, ◌∙◌}
 use mathlib.Core.Bool.{true, false}
 use mathlib.Core.List.{List}
-use Prim.Native.Nat.{ℕ, zero, suc, ◌+◌, ◌*◌, ◌-◌, ◌<◌, ◌≤◌, min}
+use Prim.Native.Nat.{ℕ, zero, suc, ◌+◌, ◌-◌, ◌<◌, ◌≤◌, min}
 use native.Mathlib.Omega.{arith}
-use borrow.Author.Tests.{leb-true, leb-false, le-leb, lt-leb, lt-ltb, le-ltb, eqb-true, eq-eqb}
+use borrow.Author.Tests.{leb-true, leb-false, le-leb, lt-leb, le-ltb, eqb-true, eq-eqb}
 use lib.Dec.{leb, ltb, eqb}
 use lib.ListN.{length, take, drop, length-drop}
 use lib.Seq.{drop-drop}
 use Rattle.text.proofs.Branches.{and_left, both_ways, either_way}
-use Rattle.memory.specs.Number.{number_at}
-use Rattle.audit.specs.Journal.{numbers_of, texts_of, entry_number, lengths_start, texts_start, text_length, text_start, entry_text, entry_length, call_known, entry_fits, entries_fit}
-
--- a number or a length that an entry has, and one that it has not
-module _ (entry : List ℕ) (k : ℕ) {many : ℕ} where
-  module _ (is : many ≡ numbers_of entry) where
-    pub number_there : k < many → number_at 8 entry (3 + 8 * k) ≡ entry_number entry k
-    unfolding entry_number
-    number_there below = rw (lt-ltb k (numbers_of entry) (omega (arith, is)))
-
-    pub no_number : many ≤ k → 0 ≡ entry_number entry k
-    unfolding entry_number
-    no_number above = rw (le-ltb k (numbers_of entry) (omega (arith, is)))
-
-  module _ (is : many ≡ texts_of entry) where
-    pub text_there : {at : ℕ} → at ≡ lengths_start entry → k < many → number_at 8 entry (at + 8 * k) ≡ text_length entry k
-    unfolding text_length
-    text_there at_is below = rw (at_is, lt-ltb k (texts_of entry) (omega (arith, is)))
-
-    pub no_text : many ≤ k → 0 ≡ text_length entry k
-    unfolding text_length
-    no_text above = rw (le-ltb k (texts_of entry) (omega (arith, is)))
+use Rattle.audit.specs.Journal.{texts_of, texts_start, text_length, text_start, entry_text, entry_length, call_known, entry_fits, entries_fit}
 
 -- a text starts no later than those behind it
 starts_later : (entry : List ℕ) (k n : ℕ) → text_start entry k ≤ text_start entry (k + n)
@@ -71,11 +50,6 @@ starts_within entry j = either_way (leb j (texts_of entry))
     (λ yes. let few = leb-true j (texts_of entry) yes in let there : j + (texts_of entry - j) ≡ texts_of entry = omega arith in rw there at (starts_later entry j (texts_of entry - j)))
     (λ no. let many = leb-false j (texts_of entry) no in let there : texts_of entry + (j - texts_of entry) ≡ j = omega arith in omega (arith, rw there at (all_behind entry (j - texts_of entry))))
 
--- an entry has its first three bytes
-pub some_bytes : (entry : List ℕ) → 3 ≤ entry_length entry
-unfolding text_start
-some_bytes entry = omega (arith, starts_within entry 0)
-
 -- a whole entry has its numbers, its lengths and its texts
 module _ (entry : List ℕ) (fits : entry_fits entry ≡ true) where
   pub all_there : entry_length entry ≤ length entry
@@ -104,16 +78,13 @@ unfolding entry_fits
 too_short entry short = rw (lt-leb (entry_length entry) (length entry) short)
 
 module _ (entry : List ℕ) where
-  pub no_bytes : length entry < 3 → false ≡ entry_fits entry
-  no_bytes short = too_short entry (omega (arith, some_bytes entry))
-
   pub no_fields : {at : ℕ} → at ≡ texts_start entry → length entry < at → false ≡ entry_fits entry
   unfolding text_start
   no_fields is short = too_short entry (omega (arith, is, starts_within entry 0))
 
   module _ {long : ℕ} (is : long ≡ min (entry_length entry) (length entry + 1)) where
-    pub no_texts : length entry < long → leb long (length entry) ≡ entry_fits entry
-    no_texts short = lt-leb long (length entry) short ∙ too_short entry (omega (arith, is))
+    pub no_texts : length entry < long → false ≡ entry_fits entry
+    no_texts short = too_short entry (omega (arith, is))
 
     pub then_the_call : long ≤ length entry → call_known entry ≡ entry_fits entry
     unfolding entry_fits
@@ -130,31 +101,36 @@ pub entry_within : (bytes : List ℕ) {entry : List ℕ} (at n : ℕ) → entry 
 entry_within bytes at n is_entry within long = omega (arith, length-drop at bytes, rw is_entry at long)
 
 -- entry after entry: one that is not whole answers no, and behind one that is, fewer are left
-module _ (bytes : List ℕ) {entry : List ℕ} (at left : ℕ) (is_entry : entry ≡ drop at bytes) (more : 0 < left) where
-  pub entry_short : entry_fits entry ≡ false → entries_fit left (drop at bytes) ≡ false
-  unfolding entries_fit
-  entry_short short = by left more
-    where
-      by : (left : ℕ) → 0 < left → entries_fit left (drop at bytes) ≡ false
-      by zero h = absurd (omega arith)
-      by (suc n) h = rw (← is_entry, short)
+module _ (bytes : List ℕ) {entry : List ℕ} (at i n : ℕ) (is_entry : entry ≡ drop at bytes) (more : i < n) where
+  left : n - i ≡ suc (n - (i + 1))
+  left = omega arith
 
-  pub entry_passed : {n : ℕ} → entry_fits entry ≡ true → n ≡ entry_length entry
-      → entries_fit (left - 1) (drop (at + n) bytes) ≡ entries_fit left (drop at bytes)
+  pub entry_short : entry_fits entry ≡ false → entries_fit (n - i) (drop at bytes) ≡ false
   unfolding entries_fit
-  entry_passed {n} fits long = by left more
-    where
-      by : (left : ℕ) → 0 < left → entries_fit (left - 1) (drop (at + n) bytes) ≡ entries_fit left (drop at bytes)
-      by zero h = absurd (omega arith)
-      by (suc rest) h = let fewer : suc rest - 1 ≡ rest = omega arith in rw (fewer, ← drop-drop n at bytes, ← is_entry, fits, long)
+  entry_short short = rw (left, ← is_entry, short)
+
+  pub entry_passed : {long : ℕ} → entry_fits entry ≡ true → long ≡ entry_length entry
+      → entries_fit (n - (i + 1)) (drop (at + long) bytes) ≡ entries_fit (n - i) (drop at bytes)
+  unfolding entries_fit
+  entry_passed {long} fits is = rw (left, ← drop-drop long at bytes, ← is_entry, fits, is)
 
 -- and nothing behind the last
-pub all_passed : (bytes : List ℕ) (at left : ℕ) → at ≤ length bytes → left ≤ 0 → eqb at (length bytes) ≡ entries_fit left (drop at bytes)
+pub all_passed : (bytes : List ℕ) (at i n : ℕ) → at ≤ length bytes → n ≤ i → eqb at (length bytes) ≡ entries_fit (n - i) (drop at bytes)
 unfolding entries_fit
-all_passed bytes at zero within none =
+all_passed bytes at i n within none =
+    let nothing : n - i ≡ 0 = omega arith in
     let size = length (drop at bytes) in
     let behind = length-drop at bytes in
-    both_ways (eqb at (length bytes)) (eqb size 0)
+    rw nothing
+    (both_ways (eqb at (length bytes)) (eqb size 0)
     (λ h. eq-eqb size 0 (omega (arith, behind, eqb-true at (length bytes) h)))
-    (λ h. eq-eqb at (length bytes) (omega (arith, behind, eqb-true size 0 h)))
-all_passed bytes at (suc n) within none = absurd (omega arith)
+    (λ h. eq-eqb at (length bytes) (omega (arith, behind, eqb-true size 0 h))))
+
+-- by which texts are passed
+pub ruleset text_after_text = (next_text, cut_off, starts_here)
+
+-- by which entries are passed
+pub ruleset entry_after_entry = (entry_within, entry_short, entry_passed, all_passed)
+
+-- by which an entry is found whole
+pub ruleset if_whole = (no_fields, no_texts, then_the_call)

@@ -9,9 +9,10 @@ use native.Mathlib.Omega.{arith}
 use borrow.Author.Tests.{eqb-true, eq-eqb, leb-true}
 use lib.Dec.{leb, eqb}
 use lib.ListN.{length, drop}
-use Rattle.text.proofs.Branches.{and_left, and_right, both_yes, either_way}
+use Rattle.text.proofs.Branches.{and_left, and_right, both_yes, either_way, told}
 use Rattle.memory.specs.Read.{shipments_from, shipments_in, book_in, sound_in, read_book}
 use Rattle.sound.proofs.ReadLaws.{shipments_many}
+use Rattle.book.specs.declared.reply.Reply.{Reply}
 use Rattle.audit.specs.declared.Replaying.TheVariants as replaying
 use Rattle.audit.specs.Journal.{entries_fit, count_in, journal_fits}
 use Rattle.audit.specs.Replay.{Replayed, empty_in, Replayable, Replays}
@@ -44,7 +45,7 @@ counted journal fits = leb-true 8 (length journal) (and_left (leb 8 (length jour
 otherwise : {A : Type 0} → ◌≡◌ {A = ℕ} 0 1 → A
 otherwise never = absurd (omega arith)
 
-module _ {start journal : List ℕ} {table : List (List ℕ)} where
+module _ {start journal : List ℕ} {table : List Reply} where
   pub ends_not_encoded : journal_fits journal ≡ false → Replays start journal table replaying.NotEncoded start table
   ends_not_encoded why = record {
     not_encoded = λ r. (why, refl, refl);
@@ -70,7 +71,7 @@ module _ {start journal : List ℕ} {table : List (List ℕ)} where
       replayed = λ n r. otherwise (cc);
     }
 
-  pub ends_replayed : {after : List ℕ} {table' : List (List ℕ)} {n : ℕ} → Replayable start journal table n → Replayed start journal table after table'
+  pub ends_replayed : {after : List ℕ} {table' : List Reply} {n : ℕ} → Replayable start journal table n → Replayed start journal table after table'
       → Replays start journal table (replaying.Replayed n) after table'
   ends_replayed {n = n} may all = record {
     not_encoded = λ r. otherwise (cc);
@@ -78,3 +79,6 @@ module _ {start journal : List ℕ} {table : List (List ℕ)} where
     not_empty = λ r. otherwise (cc);
     replayed = λ m r. (let same : m ≡ n = cc in rw same may, all);
   }
+
+-- by which a replay ends
+pub ruleset ends = (told, empty_is_read, not_empty, counted, ends_not_encoded, ends_too_few, ends_not_empty, ends_replayed)

@@ -23,7 +23,8 @@ use Rattle.model.proofs.SoundParts.{halves}
 use Rattle.model.proofs.Known.{found, passed, unknown_none}
 use Rattle.model.proofs.StaysSound.{always_sound}
 use Rattle.model.proofs.Conserved.{conserves, accepted_as_answered}
-use Rattle.sheet.specs.Sheet.{Division, Sheet, row_for, no_sheet, sheet_of}
+use Rattle.sheet.specs.declared.division.Division.{Division}
+use Rattle.sheet.specs.Sheet.{Sheet, row_for, no_sheet, sheet_of}
 use Rattle.sheet.specs.Inner.Parts.{division_of}
 use Rattle.sheet.specs.declared.Sheeting.TheVariants.{Filled}
 use Rattle.sheet.specs.declared.SheetRow.{SheetRow}

@@ -3,3 +3,4 @@ pub mod StoredAndLoaded
 pub mod SheetAsAnswered
 pub mod Journal
 pub mod Replay
+pub mod Inner

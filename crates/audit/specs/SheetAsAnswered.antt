@@ -9,7 +9,8 @@ use Rattle.model.specs.Shipment.{sum_over}
 use Rattle.model.specs.Book.{Book}
 use Rattle.model.specs.Demand.{Event, accepted_for, left_for, held_in, free_in}
 use Rattle.memory.specs.Read.{read_book}
-use Rattle.sheet.specs.Sheet.{Division, Sheet, sheet_of}
+use Rattle.sheet.specs.Sheet.{Sheet, sheet_of}
+use Rattle.sheet.specs.declared.division.Division.{Division}
 use Rattle.sheet.specs.declared.Sheeting.TheVariants.{Filled}
 use Rattle.sheet.specs.declared.SheetRow.{SheetRow}
 use Rattle.sheet.specs.declared.Totals.{Totals}

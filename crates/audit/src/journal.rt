@@ -1,8 +1,7 @@
 // A journal of calls, read in place.
-ghost use Rattle.std.specs.Prelude.{◌≡◌, true, ◌+◌, ◌≤◌, ◌<◌, min, length, get_or};
+ghost use Rattle.std.specs.Prelude.{◌≡◌, true, ◌+◌, ◌≤◌, ◌<◌, min, length, Some, None};
 ghost use Rattle.epe.specs.Profile.{as_fees, fees_fit};
-ghost use Rattle.audit.specs.Journal.{entry_number, lengths_start, texts_start, text_length, text_start, entry_text};
-ghost use Rattle.audit.specs.Journal.{fees_in, rates_in, profile_in, entry_length, is_call, numbers_taken, texts_taken, has_no_more, call_known, entry_fits, entries_fit, journal_fits};
+ghost use Rattle.audit.specs.Journal.{texts_start, entry_fits, entries_fit, journal_fits, numbers_taken, texts_taken};
 
 use book::numbers::are_known;
 use calendar::date::Date;
@@ -11,223 +10,258 @@ use fee::Rate;
 use memory::number::read;
 use text::bytes::{first, rest};
 
-// The number at a place, 0 where the entry has none.
-pub fn entry_number(entry: &[u8], k: usize) -> u64
-    requires { texts_start entry.now ≤ length entry.now }
-    ensures { result ≡ entry_number entry.now k }
-{
-    if k < count_at(entry, 1) {
-        return read::<8>(entry, 3 + 8 * k);
+// Bytes at whose start an entry has its call, its numbers and the lengths of its texts, all there.
+#[derive(Clone, Copy, Drop)]
+pub struct Head<'a> {
+    bytes: &'a [u8],
+    ghost there: { texts_start bytes.now ≤ length bytes.now },
+}
+
+impl<'a> Head<'a> {
+    ghost use Rattle.audit.specs.Journal.{call_byte, numbers_of, texts_of, entry_number, lengths_start, text_length, text_start, fees_in, rates_in, profile_in, entry_length, is_call, has_no_more, call_known};
+    ghost use Rattle.audit.specs.Inner.Entries.{IsHead};
+
+    // The head of an entry at the start of bytes, if it is there.
+    fn of(bytes: &'a [u8]) -> Option<Head<'a>>
+        ensures { IsHead bytes.now result }
+    {
+        if bytes.len() < 3 {
+            return None;
+        }
+        let numbers = usize::from(bytes[1]);
+        let texts = usize::from(bytes[2]);
+        if bytes.len() < 3 + 8 * numbers + 8 * texts {
+            return None;
+        }
+        Some(Head { bytes })
     }
-    0
-}
 
-// The text at a place, empty where the entry has none.
-pub fn entry_text(entry: &[u8], j: usize) -> &[u8]
-    requires { entry_fits entry.now ≡ true }
-    ensures { result.now ≡ entry_text entry.now j }
-{
-    let at = text_start(entry, j);
-    first(rest(entry, at), text_length(entry, j) as usize)
-}
+    // The byte that says which call it is.
+    pub fn call(&self) -> u8
+        ensures { result ≡ call_byte self.now.bytes.now }
+    {
+        self.bytes[0]
+    }
 
-// The numbers that stand for the five flat parts of the profile.
-pub fn fees_in(entry: &[u8]) -> [u64; 5]
-    requires { texts_start entry.now ≤ length entry.now }
-    ensures { result ≡ fees_in entry.now }
-{
-    [
-        entry_number(entry, 1),
-        entry_number(entry, 2),
-        entry_number(entry, 3),
-        entry_number(entry, 4),
-        entry_number(entry, 5),
-    ]
-}
+    // The number at a place, 0 where the entry has none.
+    #[tactic(auto, using(text::proofs::Branches::branches), unfolding(crate::specs::Journal::entry_number))]
+    pub fn number(&self, k: usize) -> u64
+        ensures { result ≡ entry_number self.now.bytes.now k }
+    {
+        if k < self.numbers() {
+            return read::<8>(self.bytes, 3 + 8 * k);
+        }
+        0
+    }
 
-// The profile of an entry whose flat parts are fees.
-pub fn profile_in(entry: &[u8]) -> Profile
-    requires { (texts_start entry.now ≤ length entry.now) × (fees_fit (as_fees (fees_in entry.now)) ≡ true) }
-    ensures { result ≡ profile_in entry.now }
-{
-    let flat = fees_of(fees_in(entry));
-    Profile {
-        today: Date(entry_number(entry, 0)),
-        flat,
-        fields: entry_number(entry, 6),
-        rates: rates_in(entry),
+    // The numbers that stand for the five flat parts of the profile.
+    pub fn fees(&self) -> [u64; 5]
+        ensures { result ≡ fees_in self.now.bytes.now }
+    {
+        std::array::from_fn(|i| self.number(1 + i))
+    }
+
+    // The profile of an entry whose flat parts are fees.
+    pub fn profile(&self) -> Profile
+        requires { fees_fit (as_fees (fees_in self.now.bytes.now)) ≡ true }
+        ensures { result ≡ profile_in self.now.bytes.now }
+    {
+        Profile {
+            today: Date(self.number(0)),
+            flat: fees_of(self.fees()),
+            fields: self.number(6),
+            rates: self.rates(),
+        }
+    }
+
+    // How long the entry is, or more than there is where it is not all there.
+    #[tactic(auto, using(crate::proofs::JournalLaws::length_is))]
+    fn length(&self) -> usize
+        ensures { result ≡ min (entry_length self.now.bytes.now) (length self.now.bytes.now + 1) }
+    {
+        self.text_start(self.texts())
+    }
+
+    // Where the text at a place starts, or behind the bytes where the texts before it are not there. A length may be any number, so that each is held
+    // against what is left.
+    #[tactic(auto, using(crate::proofs::JournalLaws::text_after_text), unfolding(crate::specs::Journal::text_start))]
+    fn text_start(&self, j: usize) -> usize
+        ensures { result ≡ min (text_start self.now.bytes.now j) (length self.now.bytes.now + 1) }
+    {
+        let mut at = self.lengths_start() + 8 * self.texts();
+        for k in 0..j {
+            let long = self.text_length(k);
+            if ((self.bytes.len() - at) as u64) < long {
+                return self.bytes.len() + 1;
+            }
+            at += long as usize;
+        }
+        at
+    }
+
+    // How long the text at a place is, 0 where the entry has none.
+    #[tactic(auto, using(text::proofs::Branches::branches), unfolding(crate::specs::Journal::text_length))]
+    fn text_length(&self, j: usize) -> u64
+        ensures { result ≡ text_length self.now.bytes.now j }
+    {
+        if j < self.texts() {
+            return read::<8>(self.bytes, self.lengths_start() + 8 * j);
+        }
+        0
+    }
+
+    // Where the lengths of the texts start.
+    fn lengths_start(&self) -> usize
+        ensures { (result ≡ lengths_start self.now.bytes.now) × (result ≤ 2043) }
+    {
+        3 + 8 * self.numbers()
+    }
+
+    // The five rates of the profile, whatever their numbers.
+    fn rates(&self) -> [Rate; 5]
+        ensures { result ≡ rates_in self.now.bytes.now }
+    {
+        std::array::from_fn(|i| Rate(self.number(7 + i)))
+    }
+
+    // How many numbers the entry has.
+    fn numbers(&self) -> usize
+        ensures { (result ≡ numbers_of self.now.bytes.now) × (result < 256) }
+    {
+        usize::from(self.bytes[1])
+    }
+
+    // How many texts it has.
+    fn texts(&self) -> usize
+        ensures { (result ≡ texts_of self.now.bytes.now) × (result < 256) }
+    {
+        usize::from(self.bytes[2])
+    }
+
+    // Is the call one that there is, and has it no more than it takes?
+    #[tactic(auto, using(text::proofs::Branches::branches), unfolding(crate::specs::Journal::call_known))]
+    fn is_call_known(&self) -> bool
+        ensures { result ≡ call_known self.now.bytes.now }
+    {
+        self.has_no_more() && self.is_call()
+    }
+
+    // Has the entry no more numbers and texts than its call takes?
+    #[tactic(auto, using(text::proofs::Branches::branches), unfolding(crate::specs::Journal::has_no_more))]
+    fn has_no_more(&self) -> bool
+        ensures { result ≡ has_no_more self.now.bytes.now }
+    {
+        let call = self.call();
+        self.numbers() <= numbers_taken(call) && self.texts() <= texts_taken(call)
+    }
+
+    // Is the call one that there is?
+    #[tactic(auto, using(text::proofs::Branches::branches), unfolding(crate::specs::Journal::is_call))]
+    fn is_call(&self) -> bool
+        ensures { result ≡ is_call self.now.bytes.now }
+    {
+        if self.call() == 9 {
+            return are_known(self.number(0), self.number(1));
+        }
+        self.call() <= 8
     }
 }
 
-// How long an entry is, or more than there is where it is not all there.
-pub fn entry_length(entry: &[u8]) -> usize
-    requires { texts_start entry.now ≤ length entry.now }
-    ensures { result ≡ min (entry_length entry.now) (length entry.now + 1) }
-{
-    text_start(entry, count_at(entry, 2))
+// An entry that is whole: its texts are there too, and its call is one that there is.
+#[derive(Clone, Copy, Drop)]
+pub struct Entry<'a> {
+    pub head: Head<'a>,
+    ghost whole: { entry_fits head.bytes.now ≡ true },
+}
+
+impl<'a> Entry<'a> {
+    ghost use Rattle.audit.specs.Journal.{entry_length, entry_text};
+    ghost use Rattle.audit.specs.Inner.Entries.{IsEntry};
+
+    // The entry at the start of bytes, if it is whole.
+    #[tactic(auto, using(crate::proofs::JournalLaws::if_whole))]
+    pub fn of(bytes: &'a [u8]) -> Option<Entry<'a>>
+        ensures { IsEntry bytes.now result }
+    {
+        let head = Head::of(bytes)?;
+        if bytes.len() < head.length() {
+            return None;
+        }
+        if !head.is_call_known() {
+            return None;
+        }
+        Some(Entry { head })
+    }
+
+    // The entry at the start of bytes, which is known to be whole.
+    #[tactic(auto, using(crate::proofs::JournalLaws::fields_there))]
+    pub fn at_start(bytes: &'a [u8]) -> Entry<'a>
+        requires { entry_fits bytes.now ≡ true }
+        ensures { result.head.bytes.now ≡ bytes.now }
+    {
+        Entry {
+            head: Head { bytes },
+        }
+    }
+
+    // How long it is.
+    #[tactic(auto, using(crate::proofs::JournalLaws::exact))]
+    pub fn length(&self) -> usize
+        ensures value { result ≡ entry_length self.now.head.bytes.now }
+        ensures within { result ≤ length self.now.head.bytes.now }
+    {
+        self.head.length()
+    }
+
+    // The text at a place, empty where it has none.
+    #[tactic(auto, using(crate::proofs::JournalLaws::text_is))]
+    pub fn text(&self, j: usize) -> &'a [u8]
+        ensures { result.now ≡ entry_text self.now.head.bytes.now j }
+    {
+        let at = self.head.text_start(j);
+        first(rest(self.head.bytes, at), self.head.text_length(j) as usize)
+    }
 }
 
 // Is the journal as many whole entries as it says, and nothing else?
+#[tactic(auto, using(text::proofs::Branches::branches), unfolding(crate::specs::Journal::journal_fits))]
 pub fn does_journal_fit(journal: &[u8]) -> bool
     ensures { result ≡ journal_fits journal.now }
 {
     8 <= journal.len() && do_entries_fit(rest(journal, 8), read::<8>(journal, 0))
 }
 
-// How many, as a byte of an entry says.
-fn count_at(entry: &[u8], i: usize) -> usize
-    requires { i < length entry.now }
-    ensures { (result ≡ get_or entry.now i 0) × (result < 256) }
-{
-    wide(entry[i])
-}
-
-// Where the text at a place starts, or behind the entry where the texts before it are not there. A length may be any number, so that each is held
-// against what is left.
-fn text_start(entry: &[u8], j: usize) -> usize
-    requires { texts_start entry.now ≤ length entry.now }
-    ensures { result ≡ min (text_start entry.now j) (length entry.now + 1) }
-{
-    let mut at = texts_start(entry);
-    let mut k = 0;
-    while k < j {
-        let long = text_length(entry, k);
-        if ((entry.len() - at) as u64) < long {
-            return entry.len() + 1;
-        }
-        at += long as usize;
-        k += 1;
-    }
-    at
-}
-
-// How long the text at a place is, 0 where the entry has none.
-fn text_length(entry: &[u8], j: usize) -> u64
-    requires { texts_start entry.now ≤ length entry.now }
-    ensures { result ≡ text_length entry.now j }
-{
-    if j < count_at(entry, 2) {
-        return read::<8>(entry, lengths_start(entry) + 8 * j);
-    }
-    0
-}
-
-// The five rates of the profile, whatever their numbers.
-fn rates_in(entry: &[u8]) -> [Rate; 5]
-    requires { texts_start entry.now ≤ length entry.now }
-    ensures { result ≡ rates_in entry.now }
-{
-    [
-        Rate(entry_number(entry, 7)),
-        Rate(entry_number(entry, 8)),
-        Rate(entry_number(entry, 9)),
-        Rate(entry_number(entry, 10)),
-        Rate(entry_number(entry, 11)),
-    ]
-}
-
 // Are the bytes n whole entries, and nothing else?
+#[tactic(auto, using(crate::proofs::JournalLaws::entry_after_entry))]
 fn do_entries_fit(bytes: &[u8], n: u64) -> bool
     ensures { result ≡ entries_fit n bytes.now }
 {
     let mut at = 0;
-    let mut left = n;
-    while 0 < left {
-        let entry = rest(bytes, at);
-        if !does_entry_fit(entry) {
+    for i in 0..n {
+        let Some(entry) = Entry::of(rest(bytes, at)) else {
             return false;
-        }
-        at += entry_length(entry);
-        left -= 1;
+        };
+        at += entry.length();
     }
     at == bytes.len()
 }
 
-// A byte as a number.
-fn wide(byte: u8) -> usize
-    ensures { (result ≡ byte) × (result < 256) }
-{
-    byte as usize
-}
-
-// Where the texts start.
-fn texts_start(entry: &[u8]) -> usize
-    requires { 3 ≤ length entry.now }
-    ensures { result ≡ texts_start entry.now }
-{
-    lengths_start(entry) + 8 * count_at(entry, 2)
-}
-
-// Where the lengths of the texts start.
-fn lengths_start(entry: &[u8]) -> usize
-    requires { 3 ≤ length entry.now }
-    ensures { (result ≡ lengths_start entry.now) × (result ≤ 2043) }
-{
-    3 + 8 * count_at(entry, 1)
-}
-
-// Is an entry whole?
-fn does_entry_fit(entry: &[u8]) -> bool
-    ensures { result ≡ entry_fits entry.now }
-{
-    let n = entry.len();
-    if n < 3 {
-        return false;
-    }
-    if n < texts_start(entry) {
-        return false;
-    }
-    entry_length(entry) <= n && is_call_known(entry)
-}
-
-// Is the call one that there is, and has it no more than it takes?
-fn is_call_known(entry: &[u8]) -> bool
-    requires { texts_start entry.now ≤ length entry.now }
-    ensures { result ≡ call_known entry.now }
-{
-    has_no_more(entry) && is_call(entry)
-}
-
-// Has the entry no more numbers and texts than its call takes?
-fn has_no_more(entry: &[u8]) -> bool
-    requires { texts_start entry.now ≤ length entry.now }
-    ensures { result ≡ has_no_more entry.now }
-{
-    let call = entry[0];
-    count_at(entry, 1) <= numbers_taken(call) && count_at(entry, 2) <= texts_taken(call)
-}
-
-// Is the call one that there is?
-fn is_call(entry: &[u8]) -> bool
-    requires { texts_start entry.now ≤ length entry.now }
-    ensures { result ≡ is_call entry.now }
-{
-    if entry[0] == 9 {
-        return are_known(entry_number(entry, 0), entry_number(entry, 1));
-    }
-    entry[0] <= 8
-}
-
 // How many numbers a call takes.
+#[tactic(auto, using(text::proofs::Branches::branches), unfolding(crate::specs::Journal::numbers_taken))]
 fn numbers_taken(call: u8) -> usize
     ensures { result ≡ numbers_taken call }
 {
-    if call == 0 {
-        return 12;
+    match call {
+        0 => 12,
+        1 => 1,
+        2..=4 => 0,
+        5..=8 => 1,
+        _ => 2,
     }
-    if call == 1 {
-        return 1;
-    }
-    if call <= 4 {
-        return 0;
-    }
-    if call <= 8 {
-        return 1;
-    }
-    2
 }
 
 // How many texts a call takes.
+#[tactic(auto, using(text::proofs::Branches::branches), unfolding(crate::specs::Journal::texts_taken))]
 fn texts_taken(call: u8) -> usize
     ensures { result ≡ texts_taken call }
 {

@@ -7,8 +7,9 @@ mod play;
 ghost use Rattle.std.specs.Prelude.{◌≡◌};
 ghost use Rattle.audit.specs.Replay.{empty_in, Replayable, Replayed, Replays};
 
-use crate::journal::{does_journal_fit, entry_length};
+use crate::journal::{Entry, does_journal_fit};
 use crate::play::play;
+use book::reply::Reply;
 use memory::number::read;
 use memory::shipments;
 use sound::is_sound;
@@ -23,8 +24,9 @@ pub enum Replaying {
     NotEmpty,
 }
 
-// Makes every call of a journal in memory that holds an empty book, and tells every answer, in three numbers to a call.
-pub fn replay(memory: &mut [u8], journal: &[u8], answers: &mut [[u64; 3]]) -> Replaying
+// Makes every call of a journal in memory that holds an empty book, and tells every answer in a table.
+#[tactic(auto, using(crate::proofs::ReplayEnds::ends))]
+pub fn replay(memory: &mut [u8], journal: &[u8], answers: &mut [Reply]) -> Replaying
     ensures { Replays memory.old journal.now answers.old result memory.new answers.new }
 {
     if !does_journal_fit(journal) {
@@ -42,6 +44,7 @@ pub fn replay(memory: &mut [u8], journal: &[u8], answers: &mut [[u64; 3]]) -> Re
 }
 
 // Does the memory hold a book without shipments?
+#[tactic(auto, using(text::proofs::Branches::branches), unfolding(crate::specs::Replay::empty_in))]
 fn is_empty(memory: &[u8]) -> bool
     ensures { result ≡ empty_in memory.now }
 {
@@ -49,17 +52,15 @@ fn is_empty(memory: &[u8]) -> bool
 }
 
 // Makes the calls of a journal that fits, in memory that holds an empty book.
-fn replay_all(memory: &mut [u8], journal: &[u8], answers: &mut [[u64; 3]], n: u64)
+#[tactic(auto, using(crate::proofs::CallByCall::replaying))]
+fn replay_all(memory: &mut [u8], journal: &[u8], answers: &mut [Reply], n: u64)
     requires { Replayable memory.old journal.now answers.old n }
     ensures { Replayed memory.old journal.now answers.old memory.new answers.new }
 {
     let mut at = 8;
-    let mut i = 0;
-    while (i as u64) < n {
-        let entry = rest(journal, at);
-        let reply = play(memory, entry);
-        answers[i] = [reply.status, reply.first, reply.second];
-        at += entry_length(entry);
-        i += 1;
+    for answer in answers[..n as usize].iter_mut() {
+        let entry = Entry::at_start(rest(journal, at));
+        *answer = play(memory, &entry);
+        at += entry.length();
     }
 }

@@ -12,22 +12,18 @@ use Rattle.text.proofs.Branches.{either_way}
 use Rattle.fee.specs.Fee.{TermsFit}
 use Rattle.fee.specs.declared.Terms.{Terms}
 use Rattle.epe.specs.Name.{name_of, name_in_form}
-use Rattle.epe.specs.Questions.{first_no}
+use Rattle.epe.specs.Questions.{Verdict, Passed, Refused as No, first_no}
 use Rattle.epe.specs.File.{header}
 use Rattle.epe.specs.Profile.{profile_questions, Fitting, terms_for}
-use Rattle.epe.specs.Opening.{opening_questions, opening, opening_of}
-use Rattle.contents.specs.Contents.{stated_terms, contents_questions, contents, orders, faulty_count, judged_of}
-use Rattle.contents.specs.Steps.{none_kept, Records, stated_in, stated_of, records_behind}
+use Rattle.epe.specs.Opening.{opening_questions, opening}
+use Rattle.contents.specs.Contents.{stated_terms, contents_questions, contents, orders, faulty_count, Accepted as AreAccepted, NotAccepted, judged_of}
+use Rattle.contents.specs.Steps.{none_kept, Records, stated_in, stated_of, stated_verdict, records_behind}
 use Rattle.contents.specs.Accepted.{EachInRange, EachCharged}
 use Rattle.contents.specs.Kept.{orders_in, kept_from}
-use Rattle.epe.specs.declared.file.Opening.{Opening}
-use Rattle.contents.specs.declared.judge.Judged.TheVariants as judged
 use Rattle.epe.specs.declared.name.Name.{Name}
 use Rattle.epe.specs.declared.profile.Profile.{Profile}
 use Rattle.contents.specs.declared.record.Order.{Order}
 use Rattle.contents.specs.declared.stated.Stated.{Stated}
-use Rattle.epe.specs.declared.verdict.Verdict.{Verdict}
-use Rattle.epe.specs.declared.verdict.Verdict.TheVariants.{Passed, Refused as No}
 use Rattle.epe.proofs.ProfileLaws.{terms_fit_holds}
 use Rattle.contents.proofs.AcceptedAsStated.{accepted_as_stated}
 use Rattle.contents.proofs.TwoStepsAreContents.{two_steps_are_contents}
@@ -149,13 +145,13 @@ module _ (m : List ℕ) (i : ℕ) (profile : Profile) (name : Name) (file : List
   abbrev of_orders : List Order → Shipment
   of_orders os = new_shipment name terms (map (entered_row terms) os)
 
-  passed_or_not : (verdict : Verdict) (n faulty : ℕ) → judged_of verdict (orders file) ≡ judged.Accepted n faulty
+  passed_or_not : (verdict : Verdict) (n faulty : ℕ) → judged_of verdict (orders file) ≡ AreAccepted n faulty
       → (verdict ≡ Passed) × ((n ≡ length (orders file)) × (faulty ≡ faulty_count (orders file)))
   unfolding judged_of
   passed_or_not Passed n faulty h = (refl, (cc, cc))
   passed_or_not (No number) n faulty h = let never : ◌≡◌ {A = ℕ} 0 1 = cc in absurd (omega arith)
 
-  refused_with_lem : (verdict : Verdict) (number : ℕ) → judged_of verdict (orders file) ≡ judged.Refused number → verdict ≡ No number
+  refused_with_lem : (verdict : Verdict) (number : ℕ) → judged_of verdict (orders file) ≡ NotAccepted number → verdict ≡ No number
   unfolding judged_of
   refused_with_lem Passed number h = let never : ◌≡◌ {A = ℕ} 0 1 = cc in absurd (omega arith)
   refused_with_lem (No n) number h = cc
@@ -168,15 +164,15 @@ module _ (m : List ℕ) (i : ℕ) (profile : Profile) (name : Name) (file : List
   }
 
   -- the records of a file whose header has passed
-  module _ (headed : (stated_of profile file).verdict ≡ Passed) {records : Records} (are_records : records ≡ records_behind profile file) where
+  module _ (headed : stated_verdict profile file ≡ Passed) {records : Records} (are_records : records ≡ records_behind profile file) where
     is_result : records.judged ≡ judged_of (contents profile file) (orders file)
     is_result = ap (λ (all : Records). all.judged) are_records ∙ two_steps_are_contents.second_decides profile file headed
 
-    pub records_refused : {number : ℕ} → records.judged ≡ judged.Refused number
+    pub records_refused : {number : ℕ} → records.judged ≡ NotAccepted number
         → DoesEnter (contents_questions profile file) (entered profile name (orders file)) (length (orders file)) (faulty_count (orders file)) m (Refused number) m
     records_refused {number} refused = contents_refused (refused_with_lem (contents profile file) number (sym is_result ∙ refused))
 
-    module _ {n faulty : ℕ} (accepted : records.judged ≡ judged.Accepted n faulty) where
+    module _ {n faulty : ℕ} (accepted : records.judged ≡ AreAccepted n faulty) where
       abbrev kept : List ℕ
       kept = records.kept
 
@@ -248,42 +244,28 @@ module _ (m : List ℕ) (profile : Profile) (name file : List ℕ) where
         contents_next unknown =
             asked_behind (profile_questions profile) _ _ _ fits ∙ asked_behind (opening_questions name file) _ _ _ passed ∙ asked_yes 101 _ _ _ unknown
 
-    -- as code has the opening
-    module _ (held : sound_in m ≡ true) {opened_file : Opening} (is_opened : opened_file ≡ opening_of name file) where
-      verdict_is : opened_file.verdict ≡ opening name file
-      unfolding opening_of
-      verdict_is = ap (λ (o : Opening). o.verdict) is_opened
+    -- the name's parts, as code has them
+    module _ (held : sound_in m ≡ true) (passed : opening name file ≡ Passed) {parts : Name} (name_is : parts ≡ name_of name) where
+      -- the header states the terms of the name's kind
+      pub terms_of_name : stated_terms profile (header file) ≡ terms_for profile parts.kind
+      terms_of_name = stated_terms_lem profile name file passed ∙ ap (λ (n : Name). terms_for profile n.kind) (sym name_is)
 
-      name_is : opened_file.name ≡ name_of name
-      unfolding opening_of
-      name_is = ap (λ (o : Opening). o.name) is_opened
+      pub name_in_form_lem : name_in_form parts ≡ true
+      name_in_form_lem = ap name_in_form name_is ∙ opened_in_form name file passed
 
-      pub not_opened : {number : ℕ} → opened_file.verdict ≡ No number → Does m call (Refused number) m
-      not_opened refused = opening_refused held (sym verdict_is ∙ refused)
+      module _ {i : ℕ} (last : i ≡ shipments_in m) {unknown : Bool} (is-unknown : unknown ≡ is_unknown parts.ident (shipments_from m 0 0 i)) where
+        unknown_test : is_unknown (name_of name).ident (book_in m) ≡ unknown
+        unfolding book_in
+        unknown_test = (λ t. is_unknown (sym name_is t).ident (shipments_from m 0 0 (sym last t))) ∙ sym is-unknown
 
-      module _ (passed : opened_file.verdict ≡ Passed) where
-        -- the header states the terms of the name's kind
-        pub terms_of_name : stated_terms profile (header file) ≡ terms_for profile opened_file.name.kind
-        terms_of_name = stated_terms_lem profile name file (sym verdict_is ∙ passed) ∙ ap (λ (n : Name). terms_for profile n.kind) (sym name_is)
+        pub known_at : unknown ≡ false → Does m call (Refused 101) m
+        known_at known = known_refused held passed (unknown_test ∙ known)
 
-        pub name_in_form_lem : name_in_form opened_file.name ≡ true
-        name_in_form_lem = ap name_in_form name_is ∙ opened_in_form name file (sym verdict_is ∙ passed)
-
-        module _ {i : ℕ} (last : i ≡ shipments_in m) {unknown : Bool}
-            (is-unknown : unknown ≡ is_unknown opened_file.name.ident (shipments_from m 0 0 i)) where
-          unknown_test : is_unknown (name_of name).ident (book_in m) ≡ unknown
-          unfolding book_in
-          unknown_test =
-              (λ t. is_unknown (sym name_is t).ident (shipments_from m 0 0 (sym last t))) ∙ sym is-unknown
-
-          pub known_at : unknown ≡ false → Does m call (Refused 101) m
-          known_at known = known_refused held (sym verdict_is ∙ passed) (unknown_test ∙ known)
-
-          pub taken_at : unknown ≡ true → {answer : Answer} {m' : List ℕ}
-              → DoesEnter (contents_questions profile file) (entered profile opened_file.name (orders file)) (length (orders file)) (faulty_count (orders file)) m answer m'
-              → Does m call answer m'
-          taken_at new enters =
-              enters.by_call call
-              (contents_next held (sym verdict_is ∙ passed) (unknown_test ∙ new)
-              ∙ ap (λ (n : Name). entered_in (contents_questions profile file) (entered profile n (orders file)) (length (orders file)) (faulty_count (orders file)) (book_in m))
-              (sym name_is))
+        pub taken_at : unknown ≡ true → {answer : Answer} {m' : List ℕ}
+            → DoesEnter (contents_questions profile file) (entered profile parts (orders file)) (length (orders file)) (faulty_count (orders file)) m answer m'
+            → Does m call answer m'
+        taken_at new enters =
+            enters.by_call call
+            (contents_next held passed (unknown_test ∙ new)
+            ∙ ap (λ (n : Name). entered_in (contents_questions profile file) (entered profile n (orders file)) (length (orders file)) (faulty_count (orders file)) (book_in m))
+            (sym name_is))

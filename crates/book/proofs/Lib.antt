@@ -5,6 +5,5 @@ pub mod NoReturns
 pub mod Telling
 pub mod Making
 pub mod Appending
-pub mod RowsTaken
 pub mod Entering
 pub mod IntakeActs

@@ -2,17 +2,16 @@
 ghost use Rattle.std.specs.Prelude.{◌≡◌, true, [], map, ◌+◌, ◌≤◌, length};
 ghost use Rattle.fee.specs.Fee.{TermsFit};
 ghost use Rattle.epe.specs.Name.{name_in_form};
-ghost use Rattle.epe.specs.Questions.{first_no};
+ghost use Rattle.epe.specs.Questions.{Passed, first_no};
 ghost use Rattle.epe.specs.File.{header};
 ghost use Rattle.epe.specs.Profile.{profile_questions, terms_for};
 ghost use Rattle.contents.specs.Contents.{stated_terms, contents_questions, orders, faulty_count};
-ghost use Rattle.contents.specs.Steps.{stated_of};
+ghost use Rattle.contents.specs.Steps.{stated_of, stated_verdict};
 ghost use Rattle.contents.specs.Accepted.{EachInRange, EachCharged};
 ghost use Rattle.contents.specs.Kept.{orders_in};
-ghost use Rattle.epe.specs.declared.verdict.Verdict.TheVariants.{Passed};
 ghost use Rattle.model.specs.Shipment.{most_shipments, most_rows};
 ghost use Rattle.model.specs.Calls.{Intake};
-ghost use Rattle.model.specs.Book.{is_unknown, rows_in, entered_row, new_shipment, entered};
+ghost use Rattle.model.specs.Book.{is_unknown, entered_row, new_shipment, entered};
 ghost use Rattle.memory.specs.Layout.{size};
 ghost use Rattle.memory.specs.Read.{shipments_from, shipments_in, sound_in};
 ghost use Rattle.acts.specs.Answers.{acceptance_of};
@@ -23,17 +22,16 @@ ghost use Rattle.book.specs.Inner.Entering.{kept_row, Fits, ShipmentEntered, Ope
 use crate::refusals;
 use acts::answer::Acceptance;
 use acts::place::{Place, find_called};
-use contents::judge::{Judged, judge_records};
+use acts::rows::rows_of;
+use contents::judge::{Accepted, judge_records};
 use contents::kept::order_in;
 use contents::stated::{Stated, judge_stated};
 use epe::file::open;
 use epe::ident::Ident;
 use epe::name::Name;
 use epe::profile::Profile;
-use epe::verdict::Verdict;
 use fee::Terms;
 use memory::enter::{enter_head, enter_order};
-use memory::head::{head_bytes, orders};
 use memory::{MOST_ROWS, MOST_SHIPMENTS, shipments, store_shipments};
 
 // Takes in an order file into a sound book.
@@ -41,12 +39,10 @@ pub fn take_file(memory: &mut [u8], profile: Profile, name: &[u8], file: &[u8]) 
     requires { (first_no (profile_questions profile) ≡ Passed) × (sound_in memory.old ≡ true) }
     ensures { Does memory.old (Intake profile name.now file.now) (acceptance_of result) memory.new }
 {
-    let opening = open(name, file);
-    let verdict = opening.verdict;
-    if let Verdict::Refused(number) = verdict {
-        return Acceptance::Refused(number);
-    }
-    let parts = opening.name;
+    let parts = match open(name, file) {
+        Ok(parts) => parts,
+        Err(refusal) => return Acceptance::Refused(u64::from(refusal)),
+    };
     let i = shipments(memory);
     if !is_unknown(memory, parts.ident, i) {
         return Acceptance::Refused(refusals::KNOWN);
@@ -71,12 +67,10 @@ fn take_in(memory: &mut [u8], i: usize, profile: Profile, name: Name, file: &[u8
     requires { (first_no (profile_questions profile) ≡ Passed) × (sound_in memory.old ≡ true) × (i ≡ shipments_in memory.old) × (name_in_form name ≡ true) × (stated_terms profile (header file.now) ≡ terms_for profile name.kind) }
     ensures { DoesEnter (contents_questions profile file.now) (entered profile name (orders file.now)) (length (orders file.now)) (faulty_count (orders file.now)) memory.old (acceptance_of result) memory.new }
 {
-    let stated = judge_stated(profile, file);
-    let verdict = stated.verdict;
-    if let Verdict::Refused(number) = verdict {
-        return Acceptance::Refused(number);
+    match judge_stated(profile, file) {
+        Ok(stated) => take_records(memory, i, profile, name, stated, file),
+        Err(refusal) => Acceptance::Refused(u64::from(refusal)),
     }
-    take_records(memory, i, profile, name, stated, file)
 }
 
 // Judges the records of a file whose header has passed, and enters it behind the i shipments that there are.
@@ -88,14 +82,14 @@ fn take_records(
     stated: Stated,
     file: &[u8],
 ) -> Acceptance
-    requires { (first_no (profile_questions profile) ≡ Passed) × (sound_in memory.old ≡ true) × (i ≡ shipments_in memory.old) × (name_in_form name ≡ true) × (stated_terms profile (header file.now) ≡ terms_for profile name.kind) × (stated ≡ stated_of profile file.now) × (stated.verdict ≡ Passed) }
+    requires { (first_no (profile_questions profile) ≡ Passed) × (sound_in memory.old ≡ true) × (i ≡ shipments_in memory.old) × (name_in_form name ≡ true) × (stated_terms profile (header file.now) ≡ terms_for profile name.kind) × (stated_verdict profile file.now ≡ Passed) × (stated ≡ stated_of profile file.now) }
     ensures { DoesEnter (contents_questions profile file.now) (entered profile name (orders file.now)) (length (orders file.now)) (faulty_count (orders file.now)) memory.old (acceptance_of result) memory.new }
 {
     let terms = stated.terms;
     let mut kept = [0u64; MOST_ROWS];
     match judge_records(profile.fields, stated, file, &mut kept) {
-        Judged::Accepted(n, faulty) => enter_behind(memory, i, name, terms, n, faulty, &kept),
-        Judged::Refused(number) => Acceptance::Refused(number),
+        Ok(accepted) => enter_behind(memory, i, name, terms, accepted, &kept),
+        Err(refusal) => Acceptance::Refused(u64::from(refusal)),
     }
 }
 
@@ -105,13 +99,13 @@ fn enter_behind(
     i: usize,
     name: Name,
     terms: Terms,
-    n: u64,
-    faulty: u64,
+    accepted: Accepted,
     kept: &[u64],
 ) -> Acceptance
-    requires { Opened memory.old i name terms × Counted terms n kept.now }
-    ensures { DoesEnter [] (new_shipment name terms (map (entered_row terms) (orders_in kept.now 0 n))) n faulty memory.old (acceptance_of result) memory.new }
+    requires { Opened memory.old i name terms × Counted terms accepted.orders kept.now }
+    ensures { DoesEnter [] (new_shipment name terms (map (entered_row terms) (orders_in kept.now 0 accepted.orders))) accepted.orders accepted.faulty memory.old (acceptance_of result) memory.new }
 {
+    let n = accepted.orders;
     if MOST_SHIPMENTS <= i {
         return Acceptance::Refused(refusals::SHIPMENTS);
     }
@@ -120,23 +114,7 @@ fn enter_behind(
         return Acceptance::Refused(refusals::ROWS);
     }
     enter(memory, i, k, name, terms, n, kept);
-    Acceptance::Accepted(n, faulty)
-}
-
-// How many rows n shipments have.
-fn rows_of(memory: &[u8], n: usize) -> usize
-    requires { (n ≤ most_shipments) × (size ≤ length memory.now) }
-    ensures { result ≡ rows_in (shipments_from memory.now 0 0 n) }
-{
-    let mut i = 0;
-    let mut k = 0;
-    let mut left = n;
-    while 0 < left {
-        k += orders(head_bytes(memory, i)) as usize;
-        i += 1;
-        left -= 1;
-    }
-    k
+    Acceptance::Accepted(n, accepted.faulty)
 }
 
 // Enters a shipment of the first n orders that a table keeps as the i-th, its rows from the k-th on.

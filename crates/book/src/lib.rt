@@ -28,11 +28,10 @@ use acts::shipment::{close_at, go_ahead_at, pair_at, transfer_at};
 use epe::ident::Ident;
 use epe::name::{Name, read_title};
 use epe::profile::{Profile, judge_profile};
-use epe::verdict::{Verdict, is_passed};
 use memory::head::{head_bytes, is_paired};
 use memory::{SIZE, store_shipments};
 use model::{Deed, Route};
-use money::{Money, Sum, SumRead};
+use money::{Money, Sum};
 use sound::is_sound;
 
 // Makes an empty book in memory that is long enough, whatever it holds.
@@ -50,9 +49,8 @@ pub fn make_empty(memory: &mut [u8]) -> Completion
 pub fn intake(memory: &mut [u8], profile: Profile, name: &[u8], file: &[u8]) -> Acceptance
     ensures { Does memory.old (Intake profile name.now file.now) (acceptance_of result) memory.new }
 {
-    let verdict = judge_profile(profile);
-    if let Verdict::Refused(number) = verdict {
-        return Acceptance::Refused(number);
+    if let Err(refusal) = judge_profile(profile) {
+        return Acceptance::Refused(u64::from(refusal));
     }
     if !is_sound(memory) {
         return Acceptance::Refused(refusals::UNREADABLE);
@@ -67,17 +65,13 @@ pub fn transfer(memory: &mut [u8], title: &[u8], amount: u64) -> Completion
     if !is_sound(memory) {
         return Completion::Refused(refusals::UNSOUND);
     }
-    let read = read_title(title);
-    let verdict = read.verdict;
-    if !is_passed(verdict) {
-        return Completion::Refused(epe::refusals::TITLE);
-    }
-    let money = read.money;
-    let SumRead::Is(sum) = Sum::of_transfer(money, amount) else {
+    let Some(title) = read_title(title) else {
+        return Completion::Refused(refusals::TITLE);
+    };
+    let Some(sum) = Sum::of_transfer(title.money, amount) else {
         return Completion::Refused(refusals::TRANSFER_AMOUNT);
     };
-    let name = read.name;
-    transfer_to(memory, name, sum)
+    transfer_to(memory, title.name, sum)
 }
 
 // Go-ahead (OBS): a Waiting shipment with faults may be paired.

@@ -4,6 +4,9 @@
 // Is the memory long enough, and a sound book?
 pub const UNSOUND: u64 = 10;
 
+// Title is a shipment name in the form above, then `-K` or `-O`?
+pub const TITLE: u64 = 11;
+
 // Amount 1 to 9,999,999,999,999?
 pub const TRANSFER_AMOUNT: u64 = 12;
 

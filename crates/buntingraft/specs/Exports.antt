@@ -1,12 +1,12 @@
 -- What the exports ensure: the reply is the call's answer in three numbers (`reply_of`), and the memory is as the call's own promise has it (`Does`).
 -- `Plays` says both of a call; making an empty book, a return, a sheet, what is written and loading have a record here, and calls without a book the
 -- reply to what they answer.
-use Rattle.std.specs.Prelude.{◌≡◌, true, false, cond, List, ℕ, ◌+◌, ◌/◌, ◌%◌, eqb}
-use Rattle.fee.specs.declared.total.AmountFound.{AmountFound}
-use Rattle.fee.specs.declared.total.AmountFound.TheVariants as found
+use Rattle.std.specs.Prelude.{◌≡◌, true, false, cond, List, ℕ, ◌+◌, ◌/◌, ◌%◌, eqb, Option, Some, None, Result, Ok, Err}
+use Rattle.money.specs.declared.Amount.{Amount}
+use Rattle.fee.specs.Refusal.{number_of}
+use Rattle.fee.specs.declared.refusal.Refusal.{Refusal as NoTerms}
 use Rattle.epe.specs.declared.ident.Ident.{Ident}
-use Rattle.contents.specs.declared.around.Around.{Around}
-use Rattle.contents.specs.declared.around.Around.TheVariants as around
+use Rattle.contents.specs.Around.{Around, Found as FaultFound, Refused as NoRecord}
 use Rattle.contents.specs.declared.extra.ExtraSaid.{ExtraSaid}
 use Rattle.model.specs.Calls.{Return, On, Answer}
 use Rattle.memory.specs.Read.{read_book}
@@ -68,10 +68,10 @@ pub record TellsLoading (before stored : List ℕ) (reply : Reply) (after : List
   pub is_reply : reply ≡ reply_to_loading answer
 
 -- The amount that makes a total, 0 where there is none, or a refusal.
-unfoldable pub reply_to_total : AmountFound → Reply
-reply_to_total (found.Is amount) = done_with amount.0 0
-reply_to_total found.Not = done_with 0 0
-reply_to_total (found.Refused number) = refused_with number
+unfoldable pub reply_to_total : Result (Option Amount) NoTerms → Reply
+reply_to_total (Ok (Some amount)) = done_with amount.0 0
+reply_to_total (Ok None) = done_with 0 0
+reply_to_total (Err refusal) = refused_with (number_of refusal)
 
 -- What is said of an extra field is told in bits: 1 empty, 2 fails, 4 spaced. (document 02, A7) Bits above those say nothing.
 unfoldable pub bits_of : ExtraSaid → ℕ
@@ -86,5 +86,5 @@ BitsSayIt = (said : ExtraSaid) → said_in (bits_of said) ≡ said
 
 -- A record around its extra field answers its fault, 0 for none, or a refusal.
 unfoldable pub reply_to_around : Around → Reply
-reply_to_around (around.Fault number) = done_with number 0
-reply_to_around (around.Refused number) = refused_with number
+reply_to_around (FaultFound number) = done_with number 0
+reply_to_around (NoRecord number) = refused_with number

@@ -7,7 +7,7 @@ ghost use Rattle.std.specs.Prelude.{◌≡◌, []};
 ghost use Rattle.fee.specs.Total.{amount_for};
 ghost use Rattle.epe.specs.Ident.{ident_of};
 ghost use Rattle.contents.specs.Faults.{said_of};
-ghost use Rattle.contents.specs.Around.{fault_around};
+ghost use Rattle.contents.specs.Around.{around_of, fault_around};
 ghost use Rattle.model.specs.Calls.{GoAhead, Pair, Close, OnOrder, Intake, Transfer, On};
 ghost use Rattle.model.specs.declared.Deed.TheVariants.{Post, Pay, MarkUndelivered, Withdraw};
 ghost use Rattle.memory.specs.Layout.{size};
@@ -24,12 +24,15 @@ ghost use Rattle.buntingraft.specs.Exports.{bits_of, said_in, reply_to_around};
 use bits::{bits_of, said_in};
 use book::numbers::{are_known, money_of, route_of};
 use book::reply::{Reply, done, refused, tell_completion};
-use contents::around::{Around, judge_around};
+use contents::around::judge_around;
 use contents::extra::judge_extra;
+use contents::faults::{Fault, number_of};
 use epe::ident::ident_of;
 use epe::profile::Profile;
-use fee::total::{AmountFound, amount_for};
+use epe::refusal::Refusal;
+use fee::total::amount_for;
 use memory::SIZE;
+use money::Amount;
 use report::ope::write_ope;
 use report::rkf::write_rkf;
 use sheet::{SheetRow, Sheeting, Totals};
@@ -228,13 +231,14 @@ pub extern "C" fn buntingraft_load(book: &mut [u8], stored: &[u8]) -> Reply
 }
 
 // Which amount makes a total, in three numbers.
-fn tell_total(found: AmountFound) -> Reply
+#[tactic(auto, unfolding(crate::specs::Exports::reply_to_total))]
+fn tell_total(found: Result<Option<Amount>, fee::refusal::Refusal>) -> Reply
     ensures { result ≡ reply_to_total found }
 {
     match found {
-        AmountFound::Is(amount) => done(amount.0, 0),
-        AmountFound::Not => done(0, 0),
-        AmountFound::Refused(number) => refused(number),
+        Ok(Some(amount)) => done(amount.0, 0),
+        Ok(None) => done(0, 0),
+        Err(refusal) => refused(u64::from(refusal)),
     }
 }
 
@@ -259,12 +263,13 @@ fn tell_writing(writing: Writing) -> Reply
 }
 
 // What is said of a record around its extra field, in three numbers.
-fn tell_around(around: Around) -> Reply
-    ensures { result ≡ reply_to_around around }
+#[tactic(auto, unfolding(crate::specs::Exports::reply_to_around))]
+fn tell_around(around: Result<Option<Fault>, Refusal>) -> Reply
+    ensures { result ≡ reply_to_around (around_of around) }
 {
     match around {
-        Around::Fault(number) => done(number, 0),
-        Around::Refused(number) => refused(number),
+        Ok(fault) => done(number_of(fault), 0),
+        Err(refusal) => refused(u64::from(refusal)),
     }
 }
 

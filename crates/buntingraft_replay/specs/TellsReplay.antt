@@ -17,7 +17,7 @@ reply_to_replay replaying.NotEncoded = not_replayed 1
 reply_to_replay replaying.TooFewAnswers = not_replayed 2
 reply_to_replay replaying.NotEmpty = not_replayed 3
 
-pub record TellsReplay (book journal : List ℕ) (table : List (List ℕ)) (reply : Reply) (book' : List ℕ) (table' : List (List ℕ)) : Type 0 where
+pub record TellsReplay (book journal : List ℕ) (table : List Reply) (reply : Reply) (book' : List ℕ) (table' : List Reply) : Type 0 where
   pub ending : Replaying
   pub replays : Replays book journal table ending book' table'
   pub is_reply : reply ≡ reply_to_replay ending

@@ -30,12 +30,12 @@ fn tell_replaying(replaying: Replaying) -> Reply
     }
 }
 
-// Makes every call of a journal, and tells every answer in a lent table: a reply is three numbers, one behind the other, as `Reply` has them.
+// Makes every call of a journal, and tells every answer in a lent table.
 #[unsafe(no_mangle)]
 pub extern "C" fn buntingraft_replay(
     book: &mut [u8],
     journal: &[u8],
-    answers: &mut [[u64; 3]],
+    answers: &mut [Reply],
 ) -> Reply
     ensures { TellsReplay book.old journal.now answers.old result book.new answers.new }
 {

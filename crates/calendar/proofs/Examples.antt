@@ -4,12 +4,12 @@ use mathlib.Core.Path.{◌≡◌, refl}
 use mathlib.Core.Bool.{true, false}
 use mathlib.Core.List.{List, [], ◌∷◌, map}
 use Prim.Native.Nat.{ℕ}
+use Rattle.std.specs.Prelude.{Some, None}
 use Rattle.text.specs.Bytes.{digit}
 use Rattle.text.specs.Number.{number_after, number}
 use Rattle.calendar.specs.Calendar.{leap, month_length, real, days_of_months, days_of_years, day_number, day_after, in_window}
 use Rattle.calendar.specs.Reading.{date_of, date_of_number, date_of_digits}
 use Rattle.calendar.specs.Time.{clock_time, time_of_number, time_of_day}
-use Rattle.calendar.specs.declared.date.DateRead.TheVariants.{Real, NotReal}
 
 leap_years : map leap (2000 ∷ 2096 ∷ 2100 ∷ []) ≡ true ∷ true ∷ false ∷ []
 unfolding leap
@@ -62,7 +62,7 @@ dates_in_digits : map date_of_digits
     ∷ (0x32 ∷ 0x30 ∷ 0x32 ∷ 0x31 ∷ 0x30 ∷ 0x32 ∷ 0x32 ∷ 0x39 ∷ [])
     ∷ (0x32 ∷ 0x30 ∷ 0x32 ∷ 0x30 ∷ 0x32 ∷ 0x32 ∷ 0x39 ∷ [])
     ∷ [])
-    ≡ Real (record { 0 = 20200229 }) ∷ NotReal ∷ NotReal ∷ []
+    ≡ Some (record { 0 = 20200229 }) ∷ None ∷ None ∷ []
 unfolding date_of_digits date_of_number date_of real leap month_length number number_after digit
 dates_in_digits = refl
 

@@ -2,6 +2,5 @@
 pub mod Parts
 pub mod Computed
 pub mod Sums
-pub mod Windows
 pub mod Days
 pub mod Examples

@@ -1,7 +1,7 @@
 -- The days of a year's first months and of the first years, by a table and by arithmetic, and how they grow.
 -- Assumes nothing.
 use mathlib.Core.Path.{◌≡◌, refl}
-use mathlib.Core.Bool.{Bool, true, false, cond, ◌||◌}
+use mathlib.Core.Bool.{Bool, true, false, ◌&&◌, ◌||◌}
 use mathlib.Core.List.{List, [], ◌∷◌}
 use Prim.Native.Nat.{ℕ, zero, suc, ◌+◌, ◌*◌, ◌-◌, ◌/◌, ◌≤◌, ◌<◌}
 use native.Mathlib.Nat.{add-zero, add-suc}
@@ -33,7 +33,7 @@ abbrev pub table : List ℕ
 table = 0 ∷ 31 ∷ 59 ∷ 90 ∷ 120 ∷ 151 ∷ 181 ∷ 212 ∷ 243 ∷ 273 ∷ 304 ∷ 334 ∷ []
 
 abbrev pub from_table : Bool → ℕ → ℕ
-from_table in_leap_year months = get_or table months 0 + cond (leb 2 months) (bool_byte in_leap_year) 0
+from_table in_leap_year months = get_or table months 0 + bool_byte (in_leap_year && leb 2 months)
 
 -- The table's rule, computed for each number of months and both kinds of year.
 agrees : Bool → ℕ → Bool

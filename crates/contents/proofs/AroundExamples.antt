@@ -6,23 +6,21 @@ use mathlib.Core.List.{List, [], ◌∷◌, ◌++◌, map}
 use Prim.Native.Nat.{ℕ, ◌-◌}
 use Prim.Native.String.{String}
 use lib.ListN.{set, take, replicate}
-use Rattle.text.specs.Bytes.{digit, same, has_byte}
+use Rattle.text.specs.Bytes.{digit}
 use Rattle.text.specs.Quoted.{bytes}
-use Rattle.text.specs.Number.{number, number_after, is_number}
+use Rattle.text.specs.Number.{number, number_after}
 use Rattle.text.specs.Fields.{fields, onto}
 use Rattle.text.specs.Lines.{stray}
 use Rattle.text.specs.Utf8.{ascii, tail_octet, lead2, lead3, lead4, point2, point3, point4, surrogate, range2, range3, range4, row2, row3, row4}
 use Rattle.text.specs.Utf8.{width, well_formed_after, starts, code_points}
 use Rattle.epe.specs.Questions.{asked}
-use Rattle.contents.specs.Faults.{sized, empty, postcode, extra, spaced, said_of, placed, housed, unspaced, fault_questions, fault_of}
-use Rattle.contents.specs.Around.{are_ended, are_begun, clean, around, fault_around}
-use Rattle.contents.specs.declared.around.Around.{Around}
-use Rattle.contents.specs.declared.around.Around.TheVariants.{Fault, Refused}
+use Rattle.contents.specs.Faults.{sized, postcode, extra, spaced, said_of, placed, housed, unspaced, fault_questions, fault_of}
+use Rattle.contents.specs.Around.{Around, Found, Refused, are_ended, are_begun, clean, around, fault_around}
 use Rattle.contents.specs.declared.extra.ExtraSaid.{ExtraSaid}
 
 -- names the definitions that the examples compute
 judges : ExtraSaid → List ℕ → List ℕ → Around
-unfolding ascii tail_octet lead2 lead3 lead4 point2 point3 point4 surrogate range2 range3 range4 row2 row3 row4 width well_formed_after starts code_points fields onto stray has_byte number number_after is_number digit asked sized empty postcode extra spaced said_of placed housed unspaced fault_questions fault_of are_ended are_begun clean around fault_around
+unfolding ascii tail_octet lead2 lead3 lead4 point2 point3 point4 surrogate range2 range3 range4 row2 row3 row4 width well_formed_after starts code_points fields onto stray number number_after digit asked sized postcode extra spaced said_of placed housed unspaced fault_questions fault_of are_ended are_begun clean around fault_around
 judges = fault_around
 
 -- The fields of an order without a fault before and after its extra field, each ended and each begun by a bar.
@@ -77,7 +75,7 @@ each judge =
 faults : List ℕ
 faults = 1 ∷ 2 ∷ 3 ∷ 4 ∷ 5 ∷ 6 ∷ 7 ∷ 8 ∷ 9 ∷ 10 ∷ 0 ∷ []
 
-each_early : each early ≡ map Fault faults
+each_early : each early ≡ map Found faults
 unfolding judges faults
 each_early = refl
 
@@ -103,7 +101,7 @@ extras_said : map (λ text. said_of (bytes text)) extras
 unfolding judges
 extras_said = refl
 
-extras_early : map (λ text. early nowhere text back) extras ≡ map Fault (0 ∷ 0 ∷ 7 ∷ 5 ∷ 7 ∷ 7 ∷ [])
+extras_early : map (λ text. early nowhere text back) extras ≡ map Found (0 ∷ 0 ∷ 7 ∷ 5 ∷ 7 ∷ 7 ∷ [])
 unfolding judges
 extras_early = refl
 
@@ -129,7 +127,7 @@ refused_after : map after (begun (take 6 back) ∷ begun (back ++ replicate 14 [
 unfolding judges
 refused_after = refl
 
-fewest_and_most : map after (begun back ∷ begun (back ++ replicate 13 []) ∷ []) ≡ Fault 0 ∷ Fault 0 ∷ []
+fewest_and_most : map after (begun back ∷ begun (back ++ replicate 13 []) ∷ []) ≡ Found 0 ∷ Found 0 ∷ []
 unfolding judges
 fewest_and_most = refl
 
@@ -138,6 +136,6 @@ impossible : fault_around (said true true false) (ended front) (begun back)
     ∷ fault_around (said true true false) (ended nowhere) (begun back)
     ∷ fault_around (said true false true) (ended front) (begun back)
     ∷ []
-    ≡ map Fault (7 ∷ 5 ∷ 10 ∷ [])
+    ≡ map Found (7 ∷ 5 ∷ 10 ∷ [])
 unfolding judges
 impossible = refl

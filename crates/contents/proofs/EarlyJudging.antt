@@ -22,8 +22,7 @@ use Rattle.epe.specs.File.{field}
 use Rattle.epe.proofs.QuestionLaws.{asked_yes, asked_none}
 use Rattle.contents.specs.Faults.{empty, unspaced, said_of, fault_questions, first_fault, fault_of}
 use Rattle.contents.specs.Around.{field_around, are_ended, are_begun, clean, around, fault_around, CutAround, RecordLine, JudgedEarly}
-use Rattle.contents.specs.Around.{EveryLineIsCut}
-use Rattle.contents.specs.declared.around.Around.TheVariants.{Fault, Refused}
+use Rattle.contents.specs.Around.{Found, Refused, EveryLineIsCut}
 use Rattle.contents.specs.declared.extra.ExtraSaid.{ExtraSaid}
 
 -- the questions ask nothing of a twelfth field
@@ -99,7 +98,7 @@ module _ (front more rest : List ℕ) (eleven : length (fields 0x7C front) ≡ 1
 
   module _ (is_record : RecordLine line) where
     begun : are_begun 7 20 (0x7C ∷ rest) ≡ true
-    unfolding are_begun empty
+    unfolding are_begun
     begun =
         let n = length (fields 0x7C line) in
         let k = length (fields 0x7C rest) in
@@ -126,19 +125,19 @@ module _ (front more rest : List ℕ) (eleven : length (fields 0x7C front) ≡ 1
           ),
         )
 
-    judged : are_ended 11 (front ++ (0x7C ∷ [])) ≡ true → fault_around (said_of more) (front ++ (0x7C ∷ [])) (0x7C ∷ rest) ≡ Fault (fault_of line)
+    judged : are_ended 11 (front ++ (0x7C ∷ [])) ≡ true → fault_around (said_of more) (front ++ (0x7C ∷ [])) (0x7C ∷ rest) ≡ Found (fault_of line)
     unfolding fault_around around fault_of
     judged ended =
         asked_yes 901 [] Refused _
         (both_yes _ _ ended (both_yes _ _ begun (both_yes _ _ all_clean.0 all_clean.1)))
         ∙ asked_none Refused _
-        ∙ ap (λ qs. Fault (first_fault qs))
+        ∙ ap (λ qs. Found (first_fault qs))
         (questions_alike (field_around (front ++ (0x7C ∷ [])) (0x7C ∷ rest)) (λ n. field n line) (said_of more) same_field
         ∙ rw its_twelfth)
 
 -- the same by what a cut says
 from_cut : (line before more after front rest : List ℕ) → RecordLine line → CutAround line before more after → before ≡ front ++ (0x7C ∷ [])
-    → after ≡ 0x7C ∷ rest → length (fields 0x7C front) ≡ 11 → fault_around (said_of more) before after ≡ Fault (fault_of line)
+    → after ≡ 0x7C ∷ rest → length (fields 0x7C front) ≡ 11 → fault_around (said_of more) before after ≡ Found (fault_of line)
 from_cut line before more after front rest is_record cut is begins eleven =
     let whole = rw (is, begins) at cut.whole in
     rw (whole, is, begins) (judged front more rest eleven cut.one_field (rw whole at is_record) (rw is at cut.ended))
@@ -152,7 +151,7 @@ first_byte b [] some h = absurd (omega arith)
 first_byte b (x ∷ s) some h = rw h
 
 pub judged_early : JudgedEarly
-unfolding are_ended empty
+unfolding are_ended
 judged_early line before more after is_record cut =
     let twelve = eqb-true (length (fields 0x7C before)) 12 (and_left (eqb (length (fields 0x7C before)) 12) (empty (field 12 before)) cut.ended) in
     let last = eqb-true (length (field 12 before)) 0 (and_right (eqb (length (fields 0x7C before)) 12) (empty (field 12 before)) cut.ended) in
@@ -161,7 +160,7 @@ judged_early line before more after is_record cut =
 
 -- a line of so many fields, cut around its twelfth
 pub every_line_is_cut : EveryLineIsCut
-unfolding are_ended empty parts_joined fields
+unfolding are_ended parts_joined fields
 every_line_is_cut line held =
     let fs = fields 0x7C line in
     let many = leb-true 19 (length fs) (and_left (leb 19 (length fs)) (leb (length fs) 32) held) in

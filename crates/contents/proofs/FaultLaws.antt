@@ -3,17 +3,17 @@
 use mathlib.Core.Path.{◌≡◌, refl, sym}
 use mathlib.Core.Bool.{Bool, true, false, cond, ◌&&◌}
 use mathlib.Core.List.{List}
-use Prim.Native.Nat.{ℕ, zero, suc, ◌+◌, ◌-◌, ◌<◌, ◌≤◌}
+use Prim.Native.Nat.{ℕ, zero, suc, ◌+◌, ◌-◌, ◌≤◌}
 use native.Mathlib.Omega.{arith}
 use borrow.Author.Tests.{leb-true, le-leb, lt-leb}
 use lib.Dec.{leb, lit≤}
-use lib.ListN.{length, take, get_or-eq_default}
+use lib.ListN.{length, take}
 use Rattle.text.specs.Utf8.{code_points}
 use Rattle.text.proofs.Branches.{and_left, and_right}
 use Rattle.text.proofs.Utf8Counting.{first_counts, counts_at_most}
 use Rattle.epe.specs.File.{field}
 use Rattle.epe.specs.Questions.{asked}
-use Rattle.contents.specs.Faults.{sized, spaced, unspaced, fault_questions, fault_of}
+use Rattle.contents.specs.Faults.{sized, said_of, unspaced, fault_questions, first_fault, fault_of}
 use Rattle.contents.specs.Inner.Parts.{field_of_two}
 use Rattle.contents.specs.declared.extra.ExtraSaid.{ExtraSaid}
 
@@ -28,33 +28,8 @@ sized_by_bytes low high s h =
       le-leb (code_points s) high (omega (arith, counts_at_most s)),
     )
 
-pub none_unspaced : (s : List ℕ) → length s ≡ 0 → false ≡ spaced s
-unfolding spaced
-none_unspaced s h =
-    rw (
-      get_or-eq_default s 0 {n = 0} (omega arith),
-      get_or-eq_default s 0 {n = length s - 1} (omega arith),
-    )
-
--- fields from one on, of which n are still to look at
-pub unspaced_on : (n from : ℕ) (its : ℕ → List ℕ) → 0 < n → spaced (its from) ≡ false
-    → unspaced n from its ≡ unspaced (n - 1) (from + 1) its
-unfolding unspaced
-unspaced_on zero from its h e = absurd (omega arith)
-unspaced_on (suc n) from its h e = let d : suc n - 1 ≡ n = omega arith in rw (e, d)
-
-pub unspaced_not : (n from : ℕ) (its : ℕ → List ℕ) → 0 < n → spaced (its from) ≡ true → unspaced n from its ≡ false
-unfolding unspaced
-unspaced_not zero from its h e = absurd (omega arith)
-unspaced_not (suc n) from its h e = rw e
-
-pub unspaced_end : (n from : ℕ) (its : ℕ → List ℕ) → n ≤ 0 → unspaced n from its ≡ true
-unfolding unspaced
-unspaced_end zero from its h = refl
-unspaced_end (suc n) from its h = absurd (omega arith)
-
 -- the same fields in a text that begins some fields later
-pub unspaced_later : (n from shift : ℕ) (its others : ℕ → List ℕ) → shift ≤ from → ((k : ℕ) → from ≤ k → its k ≡ others (k - shift))
+unspaced_later : (n from shift : ℕ) (its others : ℕ → List ℕ) → shift ≤ from → ((k : ℕ) → from ≤ k → its k ≡ others (k - shift))
     → unspaced n from its ≡ unspaced n (from - shift) others
 unfolding unspaced
 unspaced_later zero from shift its others h same = refl
@@ -64,18 +39,16 @@ unspaced_later (suc n) from shift its others h same =
     rw (same from (omega arith), rest)
 
 -- the fields of an order in two texts, and in one that is both
-pub front_unspaced : (front back : List ℕ) (shift : ℕ) → unspaced 8 4 (λ k. field k front) ≡ unspaced 8 4 (field_of_two front back shift)
-unfolding unspaced
-front_unspaced front back shift = refl
-
 pub back_unspaced : (front back : List ℕ) (shift : ℕ) → shift ≤ 11
     → unspaced 7 (13 - shift) (λ k. field k back) ≡ unspaced 7 13 (field_of_two front back shift)
 back_unspaced front back shift h =
     sym (unspaced_later 7 13 shift (field_of_two front back shift) (λ k. field k back) (omega arith) (λ k l. rw (lt-leb k 11 (omega arith))))
 
-pub whole_line : (line : List ℕ) (said : ExtraSaid) → fault_questions (field_of_two line line 0) said ≡ fault_questions (λ n. field n line) said
-unfolding fault_questions unspaced
-whole_line line said = refl
+-- a line's own extra field
+pub whole_line : (line : List ℕ) (said : ExtraSaid) → said ≡ said_of (field 12 line)
+    → first_fault (fault_questions (field_of_two line line 0) said) ≡ fault_of line
+unfolding fault_of fault_questions unspaced
+whole_line line said e = rw e
 
 -- A fault's number is at most that of the last question.
 pub fault_known : (line : List ℕ) → fault_of line ≤ 10

@@ -4,34 +4,32 @@ use mathlib.Core.Path.{◌≡◌, refl}
 use mathlib.Core.List.{List, [], ◌∷◌, ◌++◌, map}
 use Prim.Native.Nat.{ℕ}
 use Prim.Native.String.{String}
-use Rattle.text.specs.Bytes.{digit, letter, letter_or_digit, letters_or_digits, same, has_byte}
+use Rattle.text.specs.Bytes.{digit, letter, letter_or_digit}
 use Rattle.text.specs.Quoted.{bytes}
-use Rattle.text.specs.Number.{number, number_after, is_number, value_of}
+use Rattle.text.specs.Number.{number, number_after}
 use Rattle.text.specs.Fields.{fields, onto}
 use Rattle.text.specs.Lines.{lines, parted, without_last_end, stray}
 use Rattle.text.specs.Utf8.{ascii, tail_octet, lead2, lead3, lead4, point2, point3, point4, surrogate, range2, range3, range4, row2, row3, row4}
 use Rattle.text.specs.Utf8.{width, well_formed_after, starts, code_points}
-use Rattle.money.specs.Money.{fee, is_amount, grosze_of}
+use Rattle.money.specs.Money.{fee, grosze_of}
 use Rattle.money.specs.Text.{text_of, together}
 use Rattle.fee.specs.Fee.{rate}
 use Rattle.fee.specs.declared.Terms.{Terms}
 use Rattle.calendar.specs.Calendar.{real, leap, month_length, in_window, day_number, days_of_years, days_of_months}
 use Rattle.calendar.specs.Reading.{date_of, date_of_number, date_of_digits, date_in_window}
 use Rattle.calendar.specs.Time.{clock_time, time_of_number, time_of_day}
-use Rattle.epe.specs.Questions.{asked}
+use Rattle.epe.specs.Questions.{Verdict, Passed, Refused, asked}
 use Rattle.epe.specs.Ident.{identifier}
-use Rattle.epe.specs.Profile.{each, as_fees, profile_fits, rates_fit, profile_questions, no_terms, terms_for}
+use Rattle.epe.specs.Profile.{as_fees, profile_fits, rates_fit, profile_questions, no_terms, terms_for}
 use Rattle.epe.specs.Name.{name_questions}
 use Rattle.epe.specs.File.{marked}
 use Rattle.epe.specs.Opening.{file_questions, fixed_questions, repeated_questions, opening_questions, opening}
 use Rattle.epe.specs.declared.profile.Profile.{Profile}
-use Rattle.epe.specs.declared.verdict.Verdict.{Verdict}
-use Rattle.epe.specs.declared.verdict.Verdict.TheVariants.{Passed, Refused}
-use Rattle.contents.specs.Faults.{sized, empty, placed, housed, postcode, extra, spaced, said_of, unspaced, fault_questions, fault_of}
+use Rattle.contents.specs.Faults.{sized, placed, housed, postcode, extra, spaced, said_of, unspaced, fault_questions, fault_of}
 use Rattle.contents.specs.Contents.{date_questions, stated_questions, stated_terms, shaped, all_shaped, all_priced, all_charged, total, record_questions, contents_questions, contents, order_of, orders, faulty_count, judged_of, lines_read, orders_read}
-use Rattle.contents.specs.Steps.{stated_in, stated_of, records_of, none_kept, kept_where, judged_records}
+use Rattle.contents.specs.Steps.{stated_in, stated_of, stated_verdict, records_of, none_kept, kept_where, judged_records}
 use Rattle.contents.specs.Kept.{order_from, orders_in, kept_from}
-use Rattle.contents.specs.declared.judge.Judged.TheVariants.{Accepted, Refused as NotAccepted}
+use Rattle.contents.specs.Contents.{Accepted, NotAccepted}
 use Rattle.contents.specs.declared.record.Order.{Order}
 
 -- A file from its lines: the byte mark, and CR LF behind each.
@@ -71,11 +69,11 @@ zs1 = file ("1|ZUS|EPE|1.0|ZS1|ABC123|20201007120000|20201007|A|0|3|175.50" ∷ 
 
 -- names the definitions that the examples compute
 opens : List ℕ → List ℕ → Verdict
-unfolding ascii tail_octet lead2 lead3 lead4 point2 point3 point4 surrogate range2 range3 range4 row2 row3 row4 width well_formed_after digit letter letter_or_digit letters_or_digits has_byte number number_after is_number value_of fields onto lines parted without_last_end stray real leap month_length asked identifier name_questions marked file_questions fixed_questions repeated_questions opening_questions opening
+unfolding ascii tail_octet lead2 lead3 lead4 point2 point3 point4 surrogate range2 range3 range4 row2 row3 row4 width well_formed_after digit letter letter_or_digit number number_after fields onto lines parted without_last_end stray real leap month_length asked identifier name_questions marked file_questions fixed_questions repeated_questions opening_questions opening
 opens = opening
 
 holds_orders : Profile → List ℕ → Verdict
-unfolding opens starts code_points is_amount grosze_of text_of together in_window day_number days_of_years days_of_months date_of date_of_number date_of_digits date_in_window clock_time time_of_number time_of_day each as_fees profile_fits rates_fit profile_questions terms_for sized empty placed housed postcode extra spaced said_of unspaced fault_questions fault_of date_questions stated_questions shaped all_shaped all_priced all_charged total record_questions contents_questions contents order_of orders faulty_count judged_of
+unfolding opens starts code_points grosze_of text_of together in_window day_number days_of_years days_of_months date_of date_of_number date_of_digits date_in_window clock_time time_of_number time_of_day as_fees profile_fits rates_fit profile_questions terms_for sized placed housed postcode extra spaced said_of unspaced fault_questions fault_of date_questions stated_questions shaped all_shaped all_priced all_charged total record_questions contents_questions contents order_of orders faulty_count judged_of
 holds_orders = contents
 
 abbrev order : ℕ → ℕ → Order
@@ -94,9 +92,9 @@ unfolding holds_orders
 its_orders = refl
 
 -- The same in two steps: what the header states, then the records, whose orders are kept. No record is in 33 fields.
-stated : stated_of profile zs1 ≡ record { verdict = Passed; count = 3; sum = 17_550; terms = terms 350 0 }
+stated : (stated_verdict profile zs1 ≡ Passed) × (stated_of profile zs1 ≡ record { count = 3; sum = 17_550; terms = terms 350 0 })
 unfolding holds_orders stated_of stated_in
-stated = refl
+stated = (refl, refl)
 
 judged_behind : map (λ r. (records_of r 3 17_550 (terms 350 0) zs1).judged) (19 ∷ 20 ∷ 33 ∷ []) ≡ Accepted 3 1 ∷ NotAccepted 901 ∷ NotAccepted 901 ∷ []
 unfolding holds_orders records_of judged_records

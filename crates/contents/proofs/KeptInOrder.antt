@@ -17,12 +17,6 @@ use Rattle.contents.specs.declared.record.Order.{Order}
 
 -- what is no order's amount reads 0
 module _ (n : ℕ) where
-  pub held_amount : is_order_amount n ≡ true → amount n ≡ amount (cond (is_order_amount n) n 0)
-  held_amount h = rw h
-
-  pub held_within : is_order_amount n ≡ true → WithinOrder n
-  held_within h = leb-true n order_cap (and_right (leb 1 n) (leb n order_cap) h)
-
   pub no_amount : is_order_amount n ≡ false → amount 0 ≡ amount (cond (is_order_amount n) n 0)
   no_amount h = rw h
 

@@ -5,7 +5,7 @@ use Rattle.fee.specs.Fee.{fee_of}
 use Rattle.fee.specs.declared.Terms.{Terms}
 use Rattle.epe.specs.File.{header}
 use Rattle.epe.specs.declared.profile.Profile.{Profile}
-use Rattle.epe.specs.declared.verdict.Verdict.TheVariants.{Passed}
+use Rattle.epe.specs.Questions.{Passed}
 use Rattle.contents.specs.Contents.{stated_count, stated_sum, stated_terms, contents, orders}
 use Rattle.contents.specs.declared.record.Order.{Order}
 

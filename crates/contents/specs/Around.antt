@@ -1,6 +1,6 @@
 -- "Judge the extra address field early. .. Judge it first, in a call of its own that answers whether it is empty, whether it fails question 7 and
 -- whether it starts or ends with a space." (document 02, A7) That answer is `said_of` (Faults.antt).
-use Rattle.std.specs.Prelude.{◌≡◌, Bool, true, false, cond, not, ◌&&◌, List, [], ◌∷◌, ◌++◌, ℕ, ◌+◌, ◌-◌, eqb, leb, length, get_or, take, drop}
+use Rattle.std.specs.Prelude.{◌≡◌, Bool, true, false, cond, not, ◌&&◌, List, [], ◌∷◌, ◌++◌, ℕ, ◌+◌, ◌-◌, eqb, leb, length, get_or, take, drop, Option, Result, Ok, Err}
 use Rattle.text.specs.Bytes.{between, has_byte}
 use Rattle.text.specs.Fields.{fields}
 use Rattle.text.specs.Lines.{stray}
@@ -8,10 +8,21 @@ use Rattle.text.specs.Utf8.{well_formed}
 use Rattle.text.specs.Utf8Parts.{parts_joined}
 use Rattle.epe.specs.Questions.{◌else_no◌, asked}
 use Rattle.epe.specs.File.{field}
-use Rattle.contents.specs.Faults.{empty, said_of, fault_questions, first_fault, fault_of}
-use Rattle.contents.specs.declared.around.Around.{Around}
-use Rattle.contents.specs.declared.around.Around.TheVariants.{Fault, Refused}
+use Rattle.epe.specs.Refusal.{number_of}
+use Rattle.epe.specs.declared.refusal.Refusal.{Refusal}
+use Rattle.contents.specs.Faults.{first_of, empty, said_of, fault_questions, first_fault, fault_of}
 use Rattle.contents.specs.declared.extra.ExtraSaid.{ExtraSaid}
+use Rattle.contents.specs.declared.faults.Fault.{Fault}
+
+-- The number of the record's fault, 0 for none; or refused.
+pub data Around : Type 0 where
+  Found : ℕ → Around
+  Refused : ℕ → Around
+
+-- What code answers, with the paper's number for each fault and for each refusal.
+abbrev pub around_of : Result (Option Fault) Refusal → Around
+around_of (Ok fault) = Found (first_of fault)
+around_of (Err refusal) = Refused (number_of refusal)
 
 -- "A second call gets this answer and the record's bytes before and after the field, never the field itself, and gives the fault; .."
 -- The record's field n: the bytes after begin with a bar, so that their second field is the record's thirteenth.
@@ -36,7 +47,7 @@ around before after = are_ended 11 before && (are_begun 7 20 after && (clean bef
 
 unfoldable pub fault_around : ExtraSaid → List ℕ → List ℕ → Around
 fault_around said before after =
-    asked ((around before after else_no 901) ∷ []) Refused (Fault (first_fault (fault_questions (field_around before after) said)))
+    asked ((around before after else_no 901) ∷ []) Refused (Found (first_fault (fault_questions (field_around before after) said)))
 
 -- A line cut around its twelfth field: before it eleven fields, each ended by a bar, and after it what its own bar begins.
 pub record CutAround (line before more after : List ℕ) : Type 0 where
@@ -53,7 +64,7 @@ pub record RecordLine (line : List ℕ) : Type 0 where
 -- "For every record it is still the lowest-numbered one." And 901 for no record.
 abbrev pub JudgedEarly : Type 0
 JudgedEarly = (line before more after : List ℕ) → RecordLine line → CutAround line before more after
-    → fault_around (said_of more) before after ≡ Fault (fault_of line)
+    → fault_around (said_of more) before after ≡ Found (fault_of line)
 
 -- Every record can be cut so.
 abbrev pub before_extra : List ℕ → List ℕ

@@ -1,26 +1,26 @@
 -- The contents of an order file: the header's other fields, and the records.
-use Rattle.std.specs.Prelude.{◌≡◌, Bool, true, cond, not, ◌&&◌, List, [], ◌∷◌, ◌++◌, map, ℕ, ◌+◌, leb, ltb, eqb, length, take, drop}
+use Rattle.std.specs.Prelude.{◌≡◌, Bool, true, cond, not, ◌&&◌, List, [], ◌∷◌, ◌++◌, map, ℕ, ◌+◌, leb, ltb, eqb, length, take, drop, is_some, Result, Ok, Err}
 use Rattle.text.specs.Bytes.{same, letters_or_digits}
 use Rattle.text.specs.Quoted.{bytes}
-use Rattle.text.specs.Number.{number, is_number, value_of}
+use Rattle.std.specs.Option.{unwrap_or}
+use Rattle.text.specs.Number.{number}
 use Rattle.text.specs.Fields.{fields}
 use Rattle.text.specs.Lines.{stray}
-use Rattle.money.specs.Money.{amount, is_order_fee, is_amount, grosze_of}
+use Rattle.money.specs.Money.{amount, is_order_fee, grosze_of}
 use Rattle.money.specs.Text.{order_text, sum_text}
 use Rattle.fee.specs.Fee.{fee_of}
 use Rattle.fee.specs.declared.Terms.{Terms}
 use Rattle.calendar.specs.Reading.{date_of_digits, date_in_window}
 use Rattle.calendar.specs.Time.{time_of_day}
 use Rattle.calendar.specs.declared.date.Date.{Date}
-use Rattle.epe.specs.Questions.{Question, ◌else_no◌, first_no}
+use Rattle.epe.specs.Questions.{Question, ◌else_no◌, Verdict, Passed, Refused, first_no}
 use Rattle.epe.specs.Profile.{kinds, profile_questions, terms_for}
 use Rattle.epe.specs.File.{header, records, field}
 use Rattle.epe.specs.declared.profile.Profile.{Profile}
-use Rattle.epe.specs.declared.verdict.Verdict.{Verdict}
-use Rattle.epe.specs.declared.verdict.Verdict.TheVariants.{Passed, Refused}
 use Rattle.contents.specs.Faults.{fault_of}
-use Rattle.contents.specs.declared.judge.Judged.{Judged}
-use Rattle.contents.specs.declared.judge.Judged.TheVariants.{Accepted, Refused as NotAccepted}
+use Rattle.epe.specs.Refusal.{number_of}
+use Rattle.epe.specs.declared.refusal.Refusal.{Refusal}
+use Rattle.contents.specs.declared.judge.Accepted.{Accepted as AcceptedOrders}
 use Rattle.contents.specs.declared.record.Order.{Order}
 
 unfoldable pub date_questions : Date → List ℕ → List Question
@@ -39,7 +39,7 @@ date_questions today line =
 
 -- The number of orders and the sum that the header states.
 abbrev pub stated_count : List ℕ → ℕ
-stated_count line = value_of (number 1 6 (field 11 line))
+stated_count line = unwrap_or (number 1 6 (field 11 line)) 0
 
 abbrev pub stated_sum : List ℕ → ℕ
 stated_sum line = grosze_of (sum_text (field 12 line))
@@ -47,11 +47,11 @@ stated_sum line = grosze_of (sum_text (field 12 line))
 unfoldable pub stated_questions : List ℕ → List Question
 stated_questions line =
     -- "Field 11 is 1 to 6 digits? 126"
-    (is_number (number 1 6 (field 11 line)) else_no 126)
+    (is_some (number 1 6 (field 11 line)) else_no 126)
     -- "At least 1? 127"
     ∷ (leb 1 (stated_count line) else_no 127)
     -- "Field 12 reads as a sum? 130"
-    ∷ (is_amount (sum_text (field 12 line)) else_no 130)
+    ∷ (is_some (sum_text (field 12 line)) else_no 130)
     -- "Above zero? 131"
     ∷ (ltb 0 (stated_sum line) else_no 131)
     ∷ []
@@ -62,7 +62,7 @@ header_questions profile line = profile_questions profile ++ (date_questions pro
 
 -- What the profile sets for the kind that the header states in its field 10; for what is no digit, nothing.
 abbrev pub stated_kind : List ℕ → ℕ
-stated_kind line = cond (is_number (number 1 1 (field 10 line))) (value_of (number 1 1 (field 10 line))) kinds
+stated_kind line = unwrap_or (number 1 1 (field 10 line)) kinds
 
 abbrev pub stated_terms : Profile → List ℕ → Terms
 stated_terms profile line = terms_for profile (stated_kind line)
@@ -72,7 +72,7 @@ unfoldable pub shaped : ℕ → ℕ → List ℕ → Bool
 shaped r n line =
     (eqb (length (fields 0x7C line)) r && not (stray line))
     && (same (field 1 line) (bytes "2")
-    && (is_number (number 1 6 (field 2 line)) && eqb (value_of (number 1 6 (field 2 line))) n))
+    && (is_some (number 1 6 (field 2 line)) && eqb (unwrap_or (number 1 6 (field 2 line)) 0) n))
 
 unfoldable pub all_shaped : ℕ → ℕ → List (List ℕ) → Bool
 all_shaped r n [] = true
@@ -143,6 +143,16 @@ unfoldable pub faulty_count : List Order → ℕ
 faulty_count [] = 0
 faulty_count (order ∷ orders) = cond (eqb order.fault 0) 0 1 + faulty_count orders
 
+-- What the contents come to: accepted with these two counts, or the number of the first question answered no.
+pub data Judged : Type 0 where
+  Accepted : ℕ → ℕ → Judged
+  NotAccepted : ℕ → Judged
+
 unfoldable pub judged_of : Verdict → List Order → Judged
 judged_of Passed os = Accepted (length os) (faulty_count os)
 judged_of (Refused n) os = NotAccepted n
+
+-- What code answers, with the paper's number for each refusal.
+abbrev pub judged_as : Result AcceptedOrders Refusal → Judged
+judged_as (Ok accepted) = Accepted accepted.orders accepted.faulty
+judged_as (Err refusal) = NotAccepted (number_of refusal)

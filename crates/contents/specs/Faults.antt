@@ -1,29 +1,50 @@
 -- "An order is faulty by its first fault: .."
-use Rattle.std.specs.Prelude.{Bool, true, not, ◌&&◌, ◌||◌, List, [], ◌∷◌, ℕ, zero, suc, ◌+◌, ◌-◌, eqb, length, get_or, take, drop}
+use Rattle.std.specs.Prelude.{Bool, not, ◌&&◌, ◌||◌, List, [], ◌∷◌, ℕ, ◌-◌, eqb, length, get_or, take, drop, Option, Some, None, is_some}
+use Rattle.std.specs.List.{list_all, range_with_len}
 use Rattle.text.specs.Bytes.{between, same}
 use Rattle.text.specs.Quoted.{bytes}
 use Rattle.text.specs.Utf8.{code_points}
-use Rattle.text.specs.Number.{number, is_number}
+use Rattle.text.specs.Number.{number}
 use Rattle.epe.specs.Questions.{Question, ◌else_no◌, asked}
 use Rattle.epe.specs.File.{field}
 use Rattle.contents.specs.declared.extra.ExtraSaid.{ExtraSaid}
+use Rattle.contents.specs.declared.faults.Fault.{Fault}
+use Rattle.contents.specs.declared.faults.Fault.TheVariants.{Surname, FirstName, PostTown, Postcode, Place, House, Extra, Benefit, Period, Spaced}
+
+-- The number of each fault, as document 01 has it.
+abbrev pub fault_number : Fault → ℕ
+fault_number Surname = 1
+fault_number FirstName = 2
+fault_number PostTown = 3
+fault_number Postcode = 4
+fault_number Place = 5
+fault_number House = 6
+fault_number Extra = 7
+fault_number Benefit = 8
+fault_number Period = 9
+fault_number Spaced = 10
+
+-- The number of an order's first fault, 0 for none.
+abbrev pub first_of : Option Fault → ℕ
+first_of None = 0
+first_of (Some fault) = fault_number fault
 
 -- "Lengths count code points, not bytes." From low to high of them.
 unfoldable pub sized : ℕ → ℕ → List ℕ → Bool
 sized low high s = between low high (code_points s)
 
-unfoldable pub empty : List ℕ → Bool
+abbrev pub empty : List ℕ → Bool
 empty s = eqb (length s) 0
 
 -- dd-ddd
 unfoldable pub postcode : List ℕ → Bool
-postcode s = is_number (number 2 2 (take 2 s)) && (eqb (get_or s 2 0) 0x2D && is_number (number 3 3 (drop 3 s)))
+postcode s = is_some (number 2 2 (take 2 s)) && (eqb (get_or s 2 0) 0x2D && is_some (number 3 3 (drop 3 s)))
 
 -- `PR`, or `SP_` or `PP_` with 1 to 5 digits
 unfoldable pub extra : List ℕ → Bool
 extra s =
     same s (bytes "PR")
-    || ((same (take 3 s) (bytes "SP_") || same (take 3 s) (bytes "PP_")) && is_number (number 1 5 (drop 3 s)))
+    || ((same (take 3 s) (bytes "SP_") || same (take 3 s) (bytes "PP_")) && is_some (number 1 5 (drop 3 s)))
 
 -- It starts or ends with a space (20).
 unfoldable pub spaced : List ℕ → Bool
@@ -43,8 +64,7 @@ housed house no_extra = sized 0 11 house && not (empty house && no_extra)
 
 -- None of n fields from one on starts or ends with a space.
 unfoldable pub unspaced : ℕ → ℕ → (ℕ → List ℕ) → Bool
-unspaced zero from its = true
-unspaced (suc n) from its = not (spaced (its from)) && unspaced n (from + 1) its
+unspaced n from its = list_all (λ k. not (spaced (its k))) (range_with_len from n)
 
 -- Each question asks for the fault not to be there. They are asked of an order's fields by number, and of what is said of its extra field.
 unfoldable pub fault_questions : (ℕ → List ℕ) → ExtraSaid → List Question

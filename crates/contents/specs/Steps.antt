@@ -1,28 +1,23 @@
 -- The contents of an order file judged in two steps, as an intake takes them: what the header states, then the records, whose orders are kept.
 use Rattle.std.specs.Prelude.{◌≡◌, cond, List, ℕ, leb, replicate}
 use Rattle.fee.specs.declared.Terms.{Terms}
-use Rattle.epe.specs.Questions.{first_no}
+use Rattle.epe.specs.Questions.{Verdict, Passed, Refused, first_no}
 use Rattle.epe.specs.File.{header, records}
 use Rattle.epe.specs.declared.profile.Profile.{Profile}
-use Rattle.epe.specs.declared.verdict.Verdict.TheVariants.{Passed, Refused}
-use Rattle.contents.specs.Contents.{stated_count, stated_sum, stated_terms, header_questions, record_questions, contents, orders, orders_read, judged_of}
+use Rattle.contents.specs.Contents.{stated_count, stated_sum, stated_terms, header_questions, record_questions, contents, orders, orders_read, Judged, Accepted, NotAccepted, judged_of}
 use Rattle.contents.specs.Kept.{kept_from}
-use Rattle.contents.specs.declared.judge.Judged.{Judged}
-use Rattle.contents.specs.declared.judge.Judged.TheVariants.{Accepted, Refused as NotAccepted}
 use Rattle.contents.specs.declared.stated.Stated.{Stated}
 
--- What the questions of a header come to, beside the number of orders, the sum and the terms that it states.
+-- The number of orders, the sum and the terms that a header states.
 unfoldable pub stated_in : Profile → List ℕ → Stated
-stated_in profile line = record {
-  verdict = first_no (header_questions profile line);
-  count = stated_count line;
-  sum = stated_sum line;
-  terms = stated_terms profile line;
-}
+stated_in profile line = record { count = stated_count line; sum = stated_sum line; terms = stated_terms profile line }
 
--- The first step: 905 and 907, then 102 to 131.
 unfoldable pub stated_of : Profile → List ℕ → Stated
 stated_of profile file = stated_in profile (header file)
+
+-- The first step: 905 and 907, then 102 to 131.
+abbrev pub stated_verdict : Profile → List ℕ → Verdict
+stated_verdict profile file = first_no (header_questions profile (header file))
 
 -- A table in which no order is kept yet, with an entry for each of a book's 2,048 rows.
 abbrev pub none_kept : List ℕ
@@ -57,8 +52,8 @@ records_behind profile file = records_of profile.fields (stated_of profile file)
 -- The two steps are the contents, whatever the profile: where the first refuses, so are they refused; where it passes, they come to what the second
 -- comes to; and of a file that is accepted the orders are kept.
 pub record TwoStepsAreContents : Type 0 where
-  pub first_refuses : (profile : Profile) (file : List ℕ) (n : ℕ) → (stated_of profile file).verdict ≡ Refused n → contents profile file ≡ Refused n
-  pub second_decides : (profile : Profile) (file : List ℕ) → (stated_of profile file).verdict ≡ Passed
+  pub first_refuses : (profile : Profile) (file : List ℕ) (n : ℕ) → stated_verdict profile file ≡ Refused n → contents profile file ≡ Refused n
+  pub second_decides : (profile : Profile) (file : List ℕ) → stated_verdict profile file ≡ Passed
       → (records_behind profile file).judged ≡ judged_of (contents profile file) (orders file)
   pub accepted_kept : (profile : Profile) (file : List ℕ) → contents profile file ≡ Passed
       → (records_behind profile file).kept ≡ kept_from none_kept 0 (orders file)

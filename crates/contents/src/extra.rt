@@ -4,11 +4,11 @@ ghost use Rattle.text.specs.Bytes.{same};
 ghost use Rattle.text.specs.Quoted.{bytes};
 ghost use Rattle.contents.specs.Faults.{empty, extra, said_of};
 
-use crate::field::{is_digits, is_empty, is_spaced};
-use text::bytes::{equal, first, rest};
+use crate::field::{is_digits, is_spaced};
+use text::bytes::{first, rest};
 
 // "whether it is empty, whether it fails question 7 and whether it starts or ends with a space"
-#[derive(Clone, Copy)]
+#[derive(Clone, Copy, PartialEq, Eq, Debug)]
 pub struct ExtraSaid {
     pub empty: bool,
     pub fails: bool,
@@ -16,33 +16,36 @@ pub struct ExtraSaid {
 }
 
 // What is to be said of an extra field, whatever its bytes.
+#[tactic(auto, unfolding(crate::specs::Faults::said_of))]
 pub fn judge_extra(more: &[u8]) -> ExtraSaid
     ensures { result ≡ said_of more.now }
 {
     ExtraSaid {
-        empty: is_empty(more),
+        empty: more.is_empty(),
         fails: !may_be_extra(more),
         spaced: is_spaced(more),
     }
 }
 
 // Is a text empty or an extra?
+#[tactic(auto, using(text::proofs::Branches::branches))]
 fn may_be_extra(s: &[u8]) -> bool
     ensures { result ≡ (empty s.now || extra s.now) }
 {
-    is_empty(s) || is_extra(s)
+    s.is_empty() || is_extra(s)
 }
 
 // Is a text `PR`, or `SP_` or `PP_` with 1 to 5 digits?
+#[tactic(auto, using(text::proofs::Branches::branches), unfolding(crate::specs::Faults::extra))]
 fn is_extra(s: &[u8]) -> bool
     ensures { result ≡ extra s.now }
 {
-    equal(s, b"PR") || (is_extra_mark(first(s, 3)) && is_digits(rest(s, 3), 1, 5))
+    s == b"PR".as_slice() || (is_extra_mark(first(s, 3)) && is_digits(rest(s, 3), 1, 5))
 }
 
 // Is a text `SP_` or `PP_`?
 fn is_extra_mark(s: &[u8]) -> bool
     ensures { result ≡ (same s.now (bytes "SP_") || same s.now (bytes "PP_")) }
 {
-    equal(s, b"SP_") || equal(s, b"PP_")
+    s == b"SP_".as_slice() || s == b"PP_".as_slice()
 }

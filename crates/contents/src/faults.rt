@@ -1,236 +1,188 @@
 // The first fault of an order, by its fields in one text or two and by what is said of its extra field.
-//
-// The front has the record's fields up to the eleventh, and comes with the table and the count of its cuts. The back has those behind the extra
-// field, and comes with the places of its cuts and how many are held: field n of the record is its field n - shift. A whole line is both, and
-// the shift is 0.
 ghost use Rattle.std.specs.Prelude.{◌≡◌, not, ◌&&◌, ◌+◌, ◌≤◌, drop};
 ghost use Rattle.epe.specs.File.{field};
-ghost use Rattle.epe.specs.Inner.Cut.{CutOf};
-ghost use Rattle.contents.specs.Faults.{sized, empty, postcode, placed, housed, unspaced, fault_questions, first_fault};
-ghost use Rattle.contents.specs.Inner.Parts.{field_of_two};
+ghost use Rattle.contents.specs.Faults.{fault_number, first_of, placed, housed, unspaced, fault_questions, first_fault, fault_of};
+ghost use Rattle.contents.specs.Around.{field_around};
+ghost use Rattle.contents.specs.Inner.Parts.{field_of_two, questions_of_two};
 
-use crate::extra::ExtraSaid;
-use crate::field::{is_empty, is_postcode, is_sized, is_spaced};
-use epe::line::field_of;
+use crate::extra::{ExtraSaid, judge_extra};
+use crate::field::{is_postcode, is_sized, is_spaced};
+use epe::line::Line;
 
-// The faults of an order, in document 01's words.
+// A fault of an order, with its number, in document 01's words.
+#[derive(Clone, Copy, PartialEq, Eq, Debug)]
+pub enum Fault {
+    // "surname (field 4) not 1 to 31 long"
+    Surname = 1,
 
-// "surname (field 4) not 1 to 31 long"
-const SURNAME: u64 = 1;
+    // "first name (5) not 1 to 22"
+    FirstName = 2,
 
-// "first name (5) not 1 to 22"
-const FIRST_NAME: u64 = 2;
+    // "post town (6) not 1 to 35"
+    PostTown = 3,
 
-// "post town (6) not 1 to 35"
-const POST_TOWN: u64 = 3;
+    // "postcode (7) not dd-ddd"
+    Postcode = 4,
 
-// "postcode (7) not dd-ddd"
-const POSTCODE: u64 = 4;
+    // "town (8) or street (9) above 35, or town, street and extra (12) all empty"
+    Place = 5,
 
-// "town (8) or street (9) above 35, or town, street and extra (12) all empty"
-const PLACE: u64 = 5;
+    // "house number (10) above 11, or empty while extra is empty"
+    House = 6,
 
-// "house number (10) above 11, or empty while extra is empty"
-const HOUSE: u64 = 6;
+    // "extra not empty and not `PR`, nor `SP_` or `PP_` with 1 to 5 digits"
+    Extra = 7,
 
-// "extra not empty and not `PR`, nor `SP_` or `PP_` with 1 to 5 digits"
-const EXTRA: u64 = 7;
+    // "benefit identifier (14) not 1 to 20"
+    Benefit = 8,
 
-// "benefit identifier (14) not 1 to 20"
-const BENEFIT: u64 = 8;
+    // "period (15) not 1 to 35"
+    Period = 9,
 
-// "period (15) not 1 to 35"
-const PERIOD: u64 = 9;
+    // "one of fields 4 to 19 starts or ends with a space"
+    Spaced = 10,
+}
 
-// "one of fields 4 to 19 starts or ends with a space"
-const SPACED: u64 = 10;
+impl From<Fault> for u64 {
+    ghost from_gives = { λ fault number. number ≡ fault_number fault };
 
-// The number of the first fault, 0 for none.
-pub fn first_fault(
-    said: ExtraSaid,
-    front: &[u8],
-    table: &[usize],
-    count: usize,
-    back: &[u8],
-    places: &[usize],
-    held: usize,
+    fn from(fault: Fault) -> u64 {
+        fault as u64
+    }
+}
+
+// The number of a fault, 0 for none.
+// Kept: 1f: across the C interface a fault is a number, and 0 for none.
+pub fn number_of(fault: Option<Fault>) -> u64
+    ensures { result ≡ first_of fault }
+{
+    fault.map_or(0, u64::from)
+}
+
+// An order's fields, and what is said of its extra field. The front has those up to the eleventh. The back has those behind the extra field:
+// field n of the order is its field n - shift. A whole line is both, and the shift is 0.
+#[derive(Drop)]
+pub struct Record<'a> {
+    front: &'a Line<'a>,
+    back: &'a Line<'a>,
     shift: usize,
-) -> u64
-    requires front_cut { CutOf front.now table.now count }
-    requires back_cut { CutOf back.now places.now held }
-    requires shift_within { shift ≤ 11 }
-    ensures { result ≡ first_fault (fault_questions (field_of_two front.now back.now shift) said) }
-{
-    if !has_size(front, table, count, 4, 1, 31) {
-        return SURNAME;
-    }
-    if !has_size(front, table, count, 5, 1, 22) {
-        return FIRST_NAME;
-    }
-    if !has_size(front, table, count, 6, 1, 35) {
-        return POST_TOWN;
-    }
-    if !has_postcode(front, table, count) {
-        return POSTCODE;
-    }
-    address_fault(said, front, table, count, back, places, held, shift)
+    extra: ExtraSaid,
+    ghost shifted: { shift ≤ 11 },
 }
 
-// Is field n from low to high code points long?
-fn has_size(line: &[u8], table: &[usize], count: usize, n: usize, low: usize, high: usize) -> bool
-    requires cut_of { CutOf line.now table.now count }
-    requires field_number { (1 ≤ n) × (n ≤ 32) }
-    ensures { result ≡ sized low high (field n line.now) }
-{
-    is_sized(field_of(line, table, count, n), low, high)
-}
-
-// Is field 7 a postcode?
-fn has_postcode(line: &[u8], table: &[usize], count: usize) -> bool
-    requires { CutOf line.now table.now count }
-    ensures { result ≡ postcode (field 7 line.now) }
-{
-    is_postcode(field_of(line, table, count, 7))
-}
-
-// The first fault from the fifth on.
-fn address_fault(
-    said: ExtraSaid,
-    front: &[u8],
-    table: &[usize],
-    count: usize,
-    back: &[u8],
-    places: &[usize],
-    held: usize,
-    shift: usize,
-) -> u64
-    requires front_cut { CutOf front.now table.now count }
-    requires back_cut { CutOf back.now places.now held }
-    requires shift_within { shift ≤ 11 }
-    ensures { result ≡ first_fault (drop 4 (fault_questions (field_of_two front.now back.now shift) said)) }
-{
-    if !has_place(front, table, count, said.empty) {
-        return PLACE;
+impl<'a> Record<'a> {
+    // The order of a whole line.
+    #[tactic(auto, using(crate::proofs::FaultLaws::whole_line))]
+    pub fn of(line: &'a Line<'a>) -> Record<'a>
+        ensures { first_fault (questions_of_two result.front.now.text.now result.back.now.text.now result.shift result.extra) ≡ fault_of line.now.text.now }
+    {
+        Record {
+            front: line,
+            back: line,
+            shift: 0,
+            extra: judge_extra(line.nth(12)),
+        }
     }
-    if !has_house(front, table, count, said.empty) {
-        return HOUSE;
-    }
-    if said.fails {
-        return EXTRA;
-    }
-    benefit_fault(said, front, table, count, back, places, held, shift)
-}
 
-// Do town and street, fields 8 and 9, and extra name a place?
-fn has_place(line: &[u8], table: &[usize], count: usize, absent: bool) -> bool
-    requires { CutOf line.now table.now count }
-    ensures { result ≡ placed (field 8 line.now) (field 9 line.now) absent }
-{
-    is_place(
-        field_of(line, table, count, 8),
-        field_of(line, table, count, 9),
-        absent,
-    )
+    // The order that has such bytes before and after an extra field of which so much is said.
+    pub fn around(said: ExtraSaid, before: &'a Line<'a>, after: &'a Line<'a>) -> Record<'a>
+        ensures { questions_of_two result.front.now.text.now result.back.now.text.now result.shift result.extra ≡ fault_questions (field_around before.now.text.now after.now.text.now) said }
+    {
+        Record {
+            front: before,
+            back: after,
+            shift: 11,
+            extra: said,
+        }
+    }
+
+    // The first fault.
+    #[tactic(auto, using(epe::proofs::Asking::asking), unfolding(crate::specs::Faults::fault_questions))]
+    pub fn first_fault(&self) -> Option<Fault>
+        ensures { first_of result ≡ first_fault (questions_of_two self.now.front.now.text.now self.now.back.now.text.now self.now.shift self.now.extra) }
+    {
+        if !is_sized(self.front.nth(4), 1, 31) {
+            return Some(Fault::Surname);
+        }
+        if !is_sized(self.front.nth(5), 1, 22) {
+            return Some(Fault::FirstName);
+        }
+        if !is_sized(self.front.nth(6), 1, 35) {
+            return Some(Fault::PostTown);
+        }
+        if !is_postcode(self.front.nth(7)) {
+            return Some(Fault::Postcode);
+        }
+        self.address_fault()
+    }
+
+    // The first fault from the fifth on.
+    #[tactic(auto, using(epe::proofs::Asking::asking), unfolding(crate::specs::Faults::fault_questions))]
+    fn address_fault(&self) -> Option<Fault>
+        ensures { first_of result ≡ first_fault (drop 4 (questions_of_two self.now.front.now.text.now self.now.back.now.text.now self.now.shift self.now.extra)) }
+    {
+        let absent = self.extra.empty;
+        if !is_place(self.front.nth(8), self.front.nth(9), absent) {
+            return Some(Fault::Place);
+        }
+        if !is_house(self.front.nth(10), absent) {
+            return Some(Fault::House);
+        }
+        if self.extra.fails {
+            return Some(Fault::Extra);
+        }
+        self.benefit_fault()
+    }
+
+    // The first fault from the eighth on.
+    #[tactic(auto, using(epe::proofs::Asking::asking), unfolding(crate::specs::Faults::fault_questions))]
+    fn benefit_fault(&self) -> Option<Fault>
+        ensures { first_of result ≡ first_fault (drop 7 (questions_of_two self.now.front.now.text.now self.now.back.now.text.now self.now.shift self.now.extra)) }
+    {
+        if !is_sized(self.back.nth(14 - self.shift), 1, 20) {
+            return Some(Fault::Benefit);
+        }
+        if !is_sized(self.back.nth(15 - self.shift), 1, 35) {
+            return Some(Fault::Period);
+        }
+        if !self.has_no_spaces() {
+            return Some(Fault::Spaced);
+        }
+        None
+    }
+
+    // Do none of the fields 4 to 19 start or end with a space?
+    #[tactic(auto, using(text::proofs::Branches::branches, crate::proofs::FaultLaws::back_unspaced), unfolding(crate::specs::Faults::unspaced))]
+    fn has_no_spaces(&self) -> bool
+        ensures { result ≡ (unspaced 8 4 (field_of_two self.now.front.now.text.now self.now.back.now.text.now self.now.shift) && (not self.now.extra.spaced && unspaced 7 13 (field_of_two self.now.front.now.text.now self.now.back.now.text.now self.now.shift))) }
+    {
+        are_unspaced(self.front, 4, 8)
+            && (!self.extra.spaced && are_unspaced(self.back, 13 - self.shift, 7))
+    }
 }
 
 // Are town and street no longer than they may be, and is there one of them or an extra?
+#[tactic(auto, using(text::proofs::Branches::branches), unfolding(crate::specs::Faults::placed))]
 fn is_place(town: &[u8], street: &[u8], absent: bool) -> bool
     ensures { result ≡ placed town.now street.now absent }
 {
-    is_sized(town, 0, 35) && (is_sized(street, 0, 35) && !is_nowhere(town, street, absent))
-}
-
-// Have town, street and extra no bytes?
-fn is_nowhere(town: &[u8], street: &[u8], absent: bool) -> bool
-    ensures { result ≡ (empty town.now && (empty street.now && absent)) }
-{
-    is_empty(town) && are_empty(street, absent)
-}
-
-// Have a text and extra no bytes?
-fn are_empty(s: &[u8], absent: bool) -> bool
-    ensures { result ≡ (empty s.now && absent) }
-{
-    is_empty(s) && absent
-}
-
-// Do house number, field 10, and extra name a house?
-fn has_house(line: &[u8], table: &[usize], count: usize, absent: bool) -> bool
-    requires { CutOf line.now table.now count }
-    ensures { result ≡ housed (field 10 line.now) absent }
-{
-    is_house(field_of(line, table, count, 10), absent)
+    is_sized(town, 0, 35)
+        && (is_sized(street, 0, 35) && !(town.is_empty() && (street.is_empty() && absent)))
 }
 
 // Is a house number no longer than it may be, and is there one or an extra?
+#[tactic(auto, using(text::proofs::Branches::branches), unfolding(crate::specs::Faults::housed))]
 fn is_house(house: &[u8], absent: bool) -> bool
     ensures { result ≡ housed house.now absent }
 {
-    is_sized(house, 0, 11) && !are_empty(house, absent)
-}
-
-// The first fault from the eighth on.
-fn benefit_fault(
-    said: ExtraSaid,
-    front: &[u8],
-    table: &[usize],
-    count: usize,
-    back: &[u8],
-    places: &[usize],
-    held: usize,
-    shift: usize,
-) -> u64
-    requires front_cut { CutOf front.now table.now count }
-    requires back_cut { CutOf back.now places.now held }
-    requires shift_within { shift ≤ 11 }
-    ensures { result ≡ first_fault (drop 7 (fault_questions (field_of_two front.now back.now shift) said)) }
-{
-    if !has_size(back, places, held, 14 - shift, 1, 20) {
-        return BENEFIT;
-    }
-    if !has_size(back, places, held, 15 - shift, 1, 35) {
-        return PERIOD;
-    }
-    if !have_no_spaces(said.spaced, front, table, count, back, places, held, shift) {
-        return SPACED;
-    }
-    0
-}
-
-// Do none of the fields 4 to 19 start or end with a space?
-fn have_no_spaces(
-    spaced: bool,
-    front: &[u8],
-    table: &[usize],
-    count: usize,
-    back: &[u8],
-    places: &[usize],
-    held: usize,
-    shift: usize,
-) -> bool
-    requires front_cut { CutOf front.now table.now count }
-    requires back_cut { CutOf back.now places.now held }
-    requires shift_within { shift ≤ 11 }
-    ensures { result ≡ (unspaced 8 4 (field_of_two front.now back.now shift) && (not spaced && unspaced 7 13 (field_of_two front.now back.now shift))) }
-{
-    are_unspaced(front, table, count, 4, 8)
-        && (!spaced && are_unspaced(back, places, held, 13 - shift, 7))
+    is_sized(house, 0, 11) && !(house.is_empty() && absent)
 }
 
 // Do none of n fields from one on start or end with a space?
-fn are_unspaced(line: &[u8], table: &[usize], count: usize, from: usize, n: usize) -> bool
-    requires cut_of { CutOf line.now table.now count }
-    requires field_numbers { (1 ≤ from) × (from + n ≤ 33) }
-    ensures { result ≡ unspaced n from (λ k. field k line.now) }
+#[tactic(auto, unfolding(crate::specs::Faults::unspaced))]
+fn are_unspaced(line: &Line<'_>, from: usize, n: usize) -> bool
+    requires { (1 ≤ from) × (from + n ≤ 33) }
+    ensures { result ≡ unspaced n from (λ k. field k line.now.text.now) }
 {
-    let mut at = from;
-    let mut left = n;
-    while 0 < left {
-        if is_spaced(field_of(line, table, count, at)) {
-            return false;
-        }
-        at += 1;
-        left -= 1;
-    }
-    true
+    (from..from + n).all(|at| !is_spaced(line.nth(at)))
 }

@@ -1,26 +1,22 @@
 // What is asked of one field's text.
-ghost use Rattle.std.specs.Prelude.{◌≡◌, ◌&&◌, leb, length, take};
-ghost use Rattle.text.specs.Number.{number, is_number};
+ghost use Rattle.std.specs.Prelude.{◌≡◌, ◌&&◌, leb, length, take, is_some};
+ghost use Rattle.text.specs.Number.{number};
 ghost use Rattle.text.specs.Utf8.{code_points};
-ghost use Rattle.contents.specs.Faults.{sized, empty, postcode, spaced};
+ghost use Rattle.contents.specs.Faults.{sized, postcode, spaced};
 
 use text::bytes::{byte_at, first, rest};
-use text::number;
-use text::number::is_number;
+use text::number::read;
 use text::utf8::count_code_points;
 
 // A space is U+0020 only.
 const SPACE: u8 = b' ';
 
 // Is a text from low to high code points long? Most are, by their bytes, and are not counted.
+#[tactic(auto, using(crate::proofs::FaultLaws::sized_by_bytes), unfolding(crate::specs::Faults::sized))]
 pub fn is_sized(s: &[u8], low: usize, high: usize) -> bool
     ensures { result ≡ sized low high s.now }
 {
-    if is_sized_by_bytes(s, low, high) {
-        return true;
-    }
-    let n = count_code_points(s);
-    low <= n && n <= high
+    is_sized_by_bytes(s, low, high) || (low..=high).contains(&count_code_points(s))
 }
 
 // Is the first byte's count of code points no less than low, and the number of bytes no more than high? Then so is the count of all.
@@ -31,6 +27,7 @@ fn is_sized_by_bytes(s: &[u8], low: usize, high: usize) -> bool
 }
 
 // Is a text dd-ddd?
+#[tactic(auto, using(text::proofs::Branches::branches), unfolding(crate::specs::Faults::postcode))]
 pub fn is_postcode(s: &[u8]) -> bool
     ensures { result ≡ postcode s.now }
 {
@@ -39,25 +36,15 @@ pub fn is_postcode(s: &[u8]) -> bool
 
 // Is a text so many digits?
 pub fn is_digits(s: &[u8], least: usize, most: usize) -> bool
-    ensures { result ≡ is_number (number least most s.now) }
+    ensures { result ≡ is_some (number least most s.now) }
 {
-    is_number(number::read(s, least, most))
-}
-
-// Has a text no bytes?
-pub fn is_empty(s: &[u8]) -> bool
-    ensures { result ≡ empty s.now }
-{
-    s.len() == 0
+    read(s, least, most).is_some()
 }
 
 // Does a text start or end with a space?
+#[tactic(auto, unfolding(crate::specs::Faults::spaced))]
 pub fn is_spaced(s: &[u8]) -> bool
     ensures { result ≡ spaced s.now }
 {
-    if s.len() == 0 {
-        return false;
-    }
-    let last = s.len() - 1;
-    s[0] == SPACE || s[last] == SPACE
+    s.first() == Some(&SPACE) || s.last() == Some(&SPACE)
 }

@@ -1,40 +1,29 @@
 // Orders kept in a table of numbers, one to an entry, so that an accepted file is not read again for them.
-ghost use Rattle.std.specs.Prelude.{◌≡◌, cond};
-ghost use Rattle.money.specs.Money.{amount, is_order_amount};
+ghost use Rattle.std.specs.Prelude.{◌≡◌};
 ghost use Rattle.contents.specs.Kept.{order_from, order_in};
 
 use crate::record::Order;
-use money::Amount;
+use money::{Amount, Grosze};
 
 // What an amount is multiplied by, so that its order's fault, at most 10, fits below it.
 pub const FAULTS: u64 = 16;
 
 // The order that entry j keeps; past the end, as of an entry of 0.
+// Kept: 6d: a table of 2,048 orders as they are takes 32 KiB of the caller's stack, which is all that there is; one number to an order takes 16.
 pub fn order_in(kept: &[u64], j: usize) -> Order
     ensures { result ≡ order_in kept.now j }
 {
-    if kept.len() <= j {
-        return order_from(0);
-    }
-    order_from(kept[j])
+    order_from(kept.get(j).copied().unwrap_or(0))
 }
 
-// The order that a number says.
+// The order that a number says. Grosze that are no order's amount are 0.
+#[tactic(auto, using(text::proofs::Branches::branches), unfolding(crate::specs::Kept::order_from))]
 fn order_from(code: u64) -> Order
     ensures { result ≡ order_from code }
 {
+    let grosze = code / FAULTS;
     Order {
-        amount: amount_from(code / FAULTS),
+        amount: Amount::order(if Amount::is_order(grosze) { grosze } else { 0 }),
         fault: code % FAULTS,
     }
-}
-
-// Grosze as an order's amount; what is none is 0.
-fn amount_from(grosze: u64) -> Amount
-    ensures { result ≡ amount (cond (is_order_amount grosze) grosze 0) }
-{
-    if !Amount::is_order(grosze) {
-        return Amount::order(0);
-    }
-    Amount::order(grosze)
 }

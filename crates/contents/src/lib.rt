@@ -4,11 +4,10 @@
 
 pub mod around;
 pub mod extra;
-mod faults;
+pub mod faults;
 mod field;
 pub mod judge;
 pub mod kept;
 pub mod record;
-pub mod refusals;
 pub mod stated;
 mod tally;

@@ -1,102 +1,90 @@
 // Record lines, an order each: whether a line has the shape of a record, its amount, and its first fault.
-ghost use Rattle.std.specs.Prelude.{◌≡◌, ◌&&◌, eqb, leb};
-ghost use Rattle.text.specs.Number.{number, is_number, value_of};
+ghost use Rattle.std.specs.Prelude.{◌≡◌, ◌&&◌, not, eqb, leb, length, is_some, IfSome};
+ghost use Rattle.std.specs.Option.{unwrap_or};
+ghost use Rattle.text.specs.Number.{number};
+ghost use Rattle.text.specs.Bytes.{same};
+ghost use Rattle.text.specs.Quoted.{bytes};
 ghost use Rattle.money.specs.Money.{WithinOrder};
-ghost use Rattle.epe.specs.Inner.Cut.{CutOf};
+ghost use Rattle.epe.specs.File.{field};
 ghost use Rattle.contents.specs.Faults.{fault_of};
 ghost use Rattle.contents.specs.Contents.{shaped, amount_in, order_of};
-ghost use Rattle.contents.specs.Inner.Tally.{RecordOf};
+ghost use Rattle.contents.specs.Inner.Tally.{record_read};
 
-use crate::extra::judge_extra;
-use crate::faults::first_fault;
-use epe::line::{BAR, field_of, has_fields};
-use money::{Amount, grosze_of};
-use text::bytes::equal;
-use text::fields::cut;
+use crate::faults::{Record, number_of};
+use epe::line::Line;
+use money::{Amount, Grosze};
 use text::lines::has_stray;
 use text::number;
-use text::number::Number;
 
 // An order: its amount, and the number of its first fault, 0 for none.
-#[derive(Clone, Copy)]
+#[derive(Clone, Copy, PartialEq, Eq, Debug)]
 pub struct Order {
     pub amount: Amount,
     pub fault: u64,
 }
 
-// What a record line says: whether it has the shape of the record that it is to be, and its order.
-#[derive(Clone, Copy)]
-pub struct RecordRead {
-    pub shaped: bool,
-    pub order: Order,
-}
-
-// What a record line says that is to be record n, in so many fields.
-pub fn read_record(line: &[u8], fields: u64, n: u64) -> RecordRead
-    ensures { RecordOf fields n line.now result }
+// The order of a line that is to be record n, in so many fields, if it has that shape.
+#[tactic(auto, using(text::proofs::Branches::branches), unfolding(crate::specs::Inner::Tally::record_read))]
+pub fn read_record(line: &[u8], fields: u64, n: u64) -> Option<Order>
+    ensures value { result ≡ record_read fields n line.now }
+    ensures within { IfSome result (λ order. WithinOrder order.amount.0) }
 {
-    let mut table = [0usize; 32];
-    let count = cut(line, BAR, &mut table);
-    RecordRead {
-        shaped: is_shaped(line, &table, count, fields, n),
-        order: order_of(line, &table, count),
+    let line = Line::of(line);
+    if !is_shaped(&line, fields, n) {
+        return None;
     }
+    Some(order_of(&line))
 }
 
 // Has a line the shape of record n, in so many fields? Never in more than 32.
-fn is_shaped(line: &[u8], table: &[usize], count: usize, fields: u64, n: u64) -> bool
-    requires { CutOf line.now table.now count }
-    ensures { result ≡ (leb fields 32 && shaped fields n line.now) }
+#[tactic(auto, using(text::proofs::Branches::branches), unfolding(crate::specs::Contents::shaped))]
+fn is_shaped(line: &Line<'_>, fields: u64, n: u64) -> bool
+    ensures { result ≡ (leb fields 32 && shaped fields n line.now.text.now) }
 {
-    if 32 < fields {
-        return false;
-    }
-    if !has_fields(line, table, count, fields) {
-        return false;
-    }
-    if has_stray(line) {
-        return false;
-    }
-    if !equal(field_of(line, table, count, 1), b"2") {
-        return false;
-    }
-    is_numbered(field_of(line, table, count, 2), n)
+    fields <= 32
+        && ((line.has(fields as usize) && !has_stray(line.text()))
+            && (is_marked(line) && is_numbered(line, n)))
 }
 
-// Is a text 1 to 6 digits that write n?
-fn is_numbered(s: &[u8], n: u64) -> bool
-    ensures { result ≡ (is_number (number 1 6 s.now) && eqb (value_of (number 1 6 s.now)) n) }
+// Is field 1 a record's mark?
+fn is_marked(line: &Line<'_>) -> bool
+    ensures { result ≡ same (field 1 line.now.text.now) (bytes "2") }
 {
-    match number::read(s, 1, 6) {
-        Number::Of(value) => value == n,
-        Number::Not => false,
-    }
+    line.nth(1) == b"2".as_slice()
+}
+
+// Is field 2 one to six digits that write n?
+#[tactic(auto, using(text::proofs::Branches::branches))]
+fn is_numbered(line: &Line<'_>, n: u64) -> bool
+    ensures { result ≡ (is_some (number 1 6 (field 2 line.now.text.now)) && eqb (unwrap_or (number 1 6 (field 2 line.now.text.now)) 0) n) }
+{
+    number::read(line.nth(2), 1, 6).is_some_and(|value| value == n)
 }
 
 // The order of a line.
-fn order_of(line: &[u8], table: &[usize], count: usize) -> Order
-    requires { CutOf line.now table.now count }
-    ensures { (result ≡ order_of line.now) × WithinOrder result.amount.0 }
+#[tactic(auto, unfolding(crate::specs::Contents::order_of))]
+fn order_of(line: &Line<'_>) -> Order
+    ensures value { result ≡ order_of line.now.text.now }
+    ensures within { WithinOrder result.amount.0 }
 {
     Order {
-        amount: Amount::order(amount(line, table, count)),
-        fault: fault(line, table, count),
+        amount: Amount::order(amount(line)),
+        fault: fault(line),
     }
 }
 
 // The amount that field 3 reads, in grosze; 0 where it reads none.
-fn amount(line: &[u8], table: &[usize], count: usize) -> u64
-    requires { CutOf line.now table.now count }
-    ensures { (result ≡ amount_in line.now) × WithinOrder result }
+#[tactic(auto, using(money::proofs::Reading::order_text_bound), unfolding(money::specs::Money::grosze_of))]
+fn amount(line: &Line<'_>) -> u64
+    ensures value { result ≡ amount_in line.now.text.now }
+    ensures within { WithinOrder result }
 {
-    grosze_of(Amount::read_order(field_of(line, table, count, 3)))
+    Amount::read_order(line.nth(3)).map_or(0, |amount| amount.0)
 }
 
-// The first fault of a line, 0 for none. Both the front and the back of the order are the line.
-fn fault(line: &[u8], table: &[usize], count: usize) -> u64
-    requires { CutOf line.now table.now count }
-    ensures { result ≡ fault_of line.now }
+// The number of the first fault of a line, 0 for none.
+fn fault(line: &Line<'_>) -> u64
+    ensures { result ≡ fault_of line.now.text.now }
 {
-    let said = judge_extra(field_of(line, table, count, 12));
-    first_fault(said, line, table, count, line, table, count, 0)
+    number_of(Record::of(line).first_fault())
 }

@@ -1,226 +1,189 @@
 // What the header states: the questions 905, 907 and 102 to 131, and the number of orders, the sum and the kind that it gives.
-ghost use Rattle.std.specs.Prelude.{◌≡◌, ◌&&◌, ◌++◌, ◌≤◌, eqb, leb, ltb, length, take, drop};
+ghost use Rattle.std.specs.Prelude.{◌≡◌, ◌&&◌, ◌≤◌, eqb, leb, ltb, length, take, drop, is_some, IfOk};
 ghost use Rattle.text.specs.Bytes.{letters_or_digits};
-ghost use Rattle.text.specs.Number.{number, is_number};
-ghost use Rattle.money.specs.Money.{is_amount};
+ghost use Rattle.text.specs.Number.{number};
 ghost use Rattle.money.specs.Text.{sum_text};
 ghost use Rattle.calendar.specs.Reading.{date_of_digits, date_in_window};
 ghost use Rattle.calendar.specs.Time.{time_of_day};
-ghost use Rattle.epe.specs.Questions.{first_no};
-ghost use Rattle.epe.specs.File.{field};
-ghost use Rattle.epe.specs.Inner.Cut.{CutOf};
+ghost use Rattle.epe.specs.Questions.{first_no, verdict_of};
+ghost use Rattle.epe.specs.File.{header, field};
 ghost use Rattle.contents.specs.Contents.{date_questions, stated_count, stated_sum, stated_questions, header_questions, stated_kind};
 ghost use Rattle.contents.specs.Steps.{stated_in, stated_of};
 
-use crate::refusals;
-use calendar::date::{Date, read_digits, read_in_window};
+use calendar::date::{Date, is_in_window, read_digits};
 use calendar::time::is_time;
-use epe::file::body_of;
-use epe::line::{BAR, field_of};
+use epe::file::header_of;
+use epe::line::Line;
 use epe::profile::{KINDS, Profile, judge_profile, terms_of};
-use epe::verdict::{Verdict, is_passed};
+use epe::refusal::Refusal;
 use fee::Terms;
-use money::{Amount, grosze_of, is_amount};
-use text::bytes::{are_letters_or_digits, first, rest, slice};
-use text::lines::line_end;
-use text::number::{Number, is_number, value_of};
+use money::Amount;
+use text::bytes::{are_letters_or_digits, first, rest};
+use text::number;
 
-// What the header states of the records, and what the questions before them come to: how many orders, their sum, and the terms of their fees.
-#[derive(Clone, Copy)]
+// What the header states of the records: how many orders, their sum, and the terms of their fees.
+#[derive(Clone, Copy, PartialEq, Eq, Debug)]
 pub struct Stated {
-    pub verdict: Verdict,
     pub count: u64,
     pub sum: u64,
     pub terms: Terms,
 }
 
-// What a profile and the header come to, the questions 905, 907 and 102 to 131, and what the header states of the records.
-pub fn judge_stated(profile: Profile, file: &[u8]) -> Stated
-    ensures { result ≡ stated_of profile file.now }
+// What the header states of the records, where a profile and it pass the questions 905, 907 and 102 to 131.
+#[tactic(auto, using(epe::proofs::Asking::join_no, epe::proofs::Asking::join_yes), unfolding(crate::specs::Steps::stated_of))]
+pub fn judge_stated(profile: Profile, file: &[u8]) -> Result<Stated, Refusal>
+    ensures verdict { verdict_of result ≡ first_no (header_questions profile (header file.now)) }
+    ensures stated { IfOk result (λ stated. stated ≡ stated_of profile file.now) }
 {
-    let s = body_of(file);
-    read_stated(slice(s, 0, line_end(s, 0)), profile)
+    judge_profile(profile)?;
+    let line = Line::of(header_of(file));
+    judge_dates(&line, profile.today)?;
+    judge_count_and_sum(&line)?;
+    Ok(read_stated(&line, profile))
 }
 
-// What a header's questions come to, and what it states.
-fn read_stated(line: &[u8], profile: Profile) -> Stated
-    ensures { result ≡ stated_in profile line.now }
+// What a header states.
+#[tactic(auto, unfolding(crate::specs::Steps::stated_in))]
+fn read_stated(line: &Line<'_>, profile: Profile) -> Stated
+    ensures { result ≡ stated_in profile line.now.text.now }
 {
-    let mut table = [0usize; 32];
-    let count = text::fields::cut(line, BAR, &mut table);
     Stated {
-        verdict: judge_header(line, &table, count, profile),
-        count: stated_count(line, &table, count),
-        sum: stated_sum(line, &table, count),
-        terms: terms_of(profile, stated_kind(line, &table, count)),
+        count: stated_count(line),
+        sum: stated_sum(line),
+        terms: terms_of(profile, stated_kind(line)),
     }
-}
-
-// The profile's questions, then the header's 102 to 131.
-fn judge_header(line: &[u8], table: &[usize], count: usize, profile: Profile) -> Verdict
-    requires { CutOf line.now table.now count }
-    ensures { result ≡ first_no (header_questions profile line.now) }
-{
-    let verdict = judge_profile(profile);
-    if !is_passed(verdict) {
-        return verdict;
-    }
-    judge_statement(line, table, count, profile.today)
-}
-
-// The header's questions 102 to 125, then 126 to 131.
-fn judge_statement(line: &[u8], table: &[usize], count: usize, today: Date) -> Verdict
-    requires { CutOf line.now table.now count }
-    ensures { result ≡ first_no (date_questions today line.now ++ stated_questions line.now) }
-{
-    let dates = judge_dates(line, table, count, today);
-    if !is_passed(dates) {
-        return dates;
-    }
-    judge_count_and_sum(line, table, count)
 }
 
 // The questions 102 to 125.
-fn judge_dates(line: &[u8], table: &[usize], count: usize, today: Date) -> Verdict
-    requires { CutOf line.now table.now count }
-    ensures { result ≡ first_no (date_questions today line.now) }
+#[tactic(auto, using(epe::proofs::Asking::asking), unfolding(crate::specs::Contents::date_questions))]
+fn judge_dates(line: &Line<'_>, today: Date) -> Result<(), Refusal>
+    ensures { verdict_of result ≡ first_no (date_questions today line.now.text.now) }
 {
-    if !is_filled(line, table, count, 7) {
-        return Verdict::Refused(refusals::CREATED_EMPTY);
+    if !is_filled(line, 7) {
+        return Err(Refusal::CreatedEmpty);
     }
-    if !is_created(line, table, count, today) {
-        return Verdict::Refused(refusals::CREATED);
+    if !is_created(line, today) {
+        return Err(Refusal::Created);
     }
-    if !is_filled(line, table, count, 6) {
-        return Verdict::Refused(refusals::UNIT_EMPTY);
+    if !is_filled(line, 6) {
+        return Err(Refusal::UnitEmpty);
     }
-    if !is_unit(line, table, count) {
-        return Verdict::Refused(refusals::UNIT);
+    if !is_unit(line) {
+        return Err(Refusal::Unit);
     }
-    if !is_due(line, table, count, today) {
-        return Verdict::Refused(refusals::BENEFIT_DATE);
+    if !is_due(line, today) {
+        return Err(Refusal::BenefitDate);
     }
-    Verdict::Passed
+    Ok(())
 }
 
 // Is field n not empty?
-fn is_filled(line: &[u8], table: &[usize], count: usize, n: usize) -> bool
-    requires cut_of { CutOf line.now table.now count }
-    requires le_n { (1 ≤ n) × (n ≤ 32) }
-    ensures { result ≡ ltb 0 (length (field n line.now)) }
+fn is_filled(line: &Line<'_>, n: usize) -> bool
+    requires { (1 ≤ n) × (n ≤ 32) }
+    ensures { result ≡ ltb 0 (length (field n line.now.text.now)) }
 {
-    let s = field_of(line, table, count, n);
-    0 < s.len()
+    !line.nth(n).is_empty()
 }
 
 // Is field 7 a date near today, and a time of day?
-fn is_created(line: &[u8], table: &[usize], count: usize, today: Date) -> bool
-    requires { CutOf line.now table.now count }
-    ensures { result ≡ (date_in_window 60 10 today (date_of_digits (take 8 (field 7 line.now))) && time_of_day (drop 8 (field 7 line.now))) }
+#[tactic(auto, using(text::proofs::Branches::branches))]
+fn is_created(line: &Line<'_>, today: Date) -> bool
+    ensures { result ≡ (date_in_window 60 10 today (date_of_digits (take 8 (field 7 line.now.text.now))) && time_of_day (drop 8 (field 7 line.now.text.now))) }
 {
-    let s = field_of(line, table, count, 7);
+    let s = line.nth(7);
     is_near(first(s, 8), today, 60, 10) && is_time(rest(s, 8))
 }
 
 // Is a text a date from `before` days before to `after` days after today?
+#[tactic(auto, unfolding(calendar::specs::Reading::date_in_window))]
 fn is_near(s: &[u8], today: Date, before: u64, after: u64) -> bool
     ensures { result ≡ date_in_window before after today (date_of_digits s.now) }
 {
-    read_in_window(read_digits(s), today, before, after)
+    read_digits(s).is_some_and(|date| is_in_window(date, today, before, after))
 }
 
 // Is field 6 six letters or digits?
-fn is_unit(line: &[u8], table: &[usize], count: usize) -> bool
-    requires { CutOf line.now table.now count }
-    ensures { result ≡ (eqb (length (field 6 line.now)) 6 && letters_or_digits (field 6 line.now)) }
+#[tactic(auto, using(text::proofs::Branches::branches))]
+fn is_unit(line: &Line<'_>) -> bool
+    ensures { result ≡ (eqb (length (field 6 line.now.text.now)) 6 && letters_or_digits (field 6 line.now.text.now)) }
 {
-    let s = field_of(line, table, count, 6);
+    let s = line.nth(6);
     s.len() == 6 && are_letters_or_digits(s)
 }
 
 // Is field 8 a date near today?
-fn is_due(line: &[u8], table: &[usize], count: usize, today: Date) -> bool
-    requires { CutOf line.now table.now count }
-    ensures { result ≡ date_in_window 30 30 today (date_of_digits (field 8 line.now)) }
+fn is_due(line: &Line<'_>, today: Date) -> bool
+    ensures { result ≡ date_in_window 30 30 today (date_of_digits (field 8 line.now.text.now)) }
 {
-    is_near(field_of(line, table, count, 8), today, 30, 30)
+    is_near(line.nth(8), today, 30, 30)
 }
 
 // The questions 126 to 131.
-fn judge_count_and_sum(line: &[u8], table: &[usize], count: usize) -> Verdict
-    requires { CutOf line.now table.now count }
-    ensures { result ≡ first_no (stated_questions line.now) }
+#[tactic(auto, using(epe::proofs::Asking::asking), unfolding(crate::specs::Contents::stated_questions))]
+fn judge_count_and_sum(line: &Line<'_>) -> Result<(), Refusal>
+    ensures { verdict_of result ≡ first_no (stated_questions line.now.text.now) }
 {
-    if !states_count(line, table, count) {
-        return Verdict::Refused(refusals::COUNT);
+    if !states_count(line) {
+        return Err(Refusal::Count);
     }
-    if !states_orders(line, table, count) {
-        return Verdict::Refused(refusals::COUNT_ZERO);
+    if !states_orders(line) {
+        return Err(Refusal::CountZero);
     }
-    if !states_sum(line, table, count) {
-        return Verdict::Refused(refusals::SUM);
+    if !states_sum(line) {
+        return Err(Refusal::Sum);
     }
-    if !states_money(line, table, count) {
-        return Verdict::Refused(refusals::SUM_ZERO);
+    if !states_money(line) {
+        return Err(Refusal::SumZero);
     }
-    Verdict::Passed
+    Ok(())
 }
 
 // Is field 11 one to six digits?
-fn states_count(line: &[u8], table: &[usize], count: usize) -> bool
-    requires { CutOf line.now table.now count }
-    ensures { result ≡ is_number (number 1 6 (field 11 line.now)) }
+fn states_count(line: &Line<'_>) -> bool
+    ensures { result ≡ is_some (number 1 6 (field 11 line.now.text.now)) }
 {
-    is_number(text::number::read(field_of(line, table, count, 11), 1, 6))
+    number::read(line.nth(11), 1, 6).is_some()
 }
 
 // Does the header state at least one order?
-fn states_orders(line: &[u8], table: &[usize], count: usize) -> bool
-    requires { CutOf line.now table.now count }
-    ensures { result ≡ leb 1 (stated_count line.now) }
+fn states_orders(line: &Line<'_>) -> bool
+    ensures { result ≡ leb 1 (stated_count line.now.text.now) }
 {
-    1 <= stated_count(line, table, count)
+    1 <= stated_count(line)
 }
 
 // How many orders the header states.
-fn stated_count(line: &[u8], table: &[usize], count: usize) -> u64
-    requires { CutOf line.now table.now count }
-    ensures { result ≡ stated_count line.now }
+fn stated_count(line: &Line<'_>) -> u64
+    ensures { result ≡ stated_count line.now.text.now }
 {
-    value_of(text::number::read(field_of(line, table, count, 11), 1, 6))
+    number::read(line.nth(11), 1, 6).unwrap_or(0)
 }
 
 // Does field 12 read as a sum?
-fn states_sum(line: &[u8], table: &[usize], count: usize) -> bool
-    requires { CutOf line.now table.now count }
-    ensures { result ≡ is_amount (sum_text (field 12 line.now)) }
+fn states_sum(line: &Line<'_>) -> bool
+    ensures { result ≡ is_some (sum_text (field 12 line.now.text.now)) }
 {
-    is_amount(Amount::read_sum(field_of(line, table, count, 12)))
+    Amount::read_sum(line.nth(12)).is_some()
 }
 
 // Does the header state a sum above zero?
-fn states_money(line: &[u8], table: &[usize], count: usize) -> bool
-    requires { CutOf line.now table.now count }
-    ensures { result ≡ ltb 0 (stated_sum line.now) }
+fn states_money(line: &Line<'_>) -> bool
+    ensures { result ≡ ltb 0 (stated_sum line.now.text.now) }
 {
-    0 < stated_sum(line, table, count)
+    0 < stated_sum(line)
 }
 
 // The sum that the header states, in grosze.
-fn stated_sum(line: &[u8], table: &[usize], count: usize) -> u64
-    requires { CutOf line.now table.now count }
-    ensures { result ≡ stated_sum line.now }
+#[tactic(auto, unfolding(money::specs::Money::grosze_of))]
+fn stated_sum(line: &Line<'_>) -> u64
+    ensures { result ≡ stated_sum line.now.text.now }
 {
-    grosze_of(Amount::read_sum(field_of(line, table, count, 12)))
+    Amount::read_sum(line.nth(12)).map_or(0, |sum| sum.0)
 }
 
 // The kind that the header states; what is no digit is none.
-fn stated_kind(line: &[u8], table: &[usize], count: usize) -> u64
-    requires { CutOf line.now table.now count }
-    ensures { result ≡ stated_kind line.now }
+fn stated_kind(line: &Line<'_>) -> u64
+    ensures { result ≡ stated_kind line.now.text.now }
 {
-    match text::number::read(field_of(line, table, count, 10), 1, 1) {
-        Number::Of(kind) => kind,
-        Number::Not => KINDS,
-    }
+    number::read(line.nth(10), 1, 1).unwrap_or(KINDS)
 }

@@ -11,7 +11,7 @@ use epe::profile::Profile;
 use fee::Rate;
 use memory::SIZE;
 use model::Route;
-use money::{Fee, Money};
+use money::{Fee, Grosze, Money};
 use std::fs::File;
 use std::io;
 use std::io::Read;

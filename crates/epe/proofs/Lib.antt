@@ -4,7 +4,6 @@ pub mod IdentLaws
 pub mod ProfileLaws
 pub mod NameLaws
 pub mod TitleLaws
-pub mod FieldsByTable
 pub mod FieldLengths
 pub mod LineWalk
 pub mod NameExamples

@@ -8,11 +8,11 @@ use native.Mathlib.Decide.{dec_lt}
 use native.Mathlib.Omega.{arith}
 use borrow.Author.Tests.{lt-ltb, le-ltb, le-leb, lt-leb}
 use lib.Dec.{ltb}
-use lib.ListN.{length, drop}
+use lib.ListN.{length, take, drop}
 use Rattle.text.specs.Bytes.{same, part}
 use Rattle.text.specs.Lines.{parted, lines}
 use Rattle.text.proofs.LineEnds.{line_end_le, line_here, last_line_here}
-use Rattle.text.proofs.Places.{part_to_end}
+use Rattle.text.proofs.Places.{part_from_start, part_to_end}
 use Rattle.epe.specs.File.{text, header, records}
 use Rattle.epe.specs.Inner.Walk.{lines_from, line_end, next_line, body}
 
@@ -73,5 +73,5 @@ module _ (file : List ℕ) where
   records_after = rw unwalked
 
 -- the header's line as the code finds it
-pub header_line : (file t line : List ℕ) (end : ℕ) → t ≡ body file → end ≡ line_end 0 t → line ≡ part 0 end t → line ≡ header file
-header_line file t line end same ends lined = rw (header_first file, ← same) (rw ends at lined)
+pub header_line : (file t line : List ℕ) (end : ℕ) → t ≡ body file → end ≡ line_end 0 t → line ≡ take end t → line ≡ header file
+header_line file t line end same ends lined = rw (header_first file, ← same) (rw ends at (lined ∙ sym (part_from_start t end)))

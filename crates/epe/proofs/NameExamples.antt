@@ -6,9 +6,9 @@ use mathlib.Core.List.{[], ◌∷◌, ◌++◌, map}
 use Prim.Native.Nat.{ℕ}
 use Prim.Native.String.{String}
 use lib.ListN.{replicate}
-use Rattle.text.specs.Bytes.{digit, letter, letter_or_digit, letters_or_digits, same}
+use Rattle.text.specs.Bytes.{digit, letter, letter_or_digit}
 use Rattle.text.specs.Quoted.{bytes}
-use Rattle.text.specs.Number.{number, number_after, is_number, value_of}
+use Rattle.text.specs.Number.{number, number_after}
 use Rattle.text.specs.Fields.{fields, onto}
 use Rattle.money.specs.declared.Money.{Money}
 use Rattle.money.specs.declared.Money.TheVariants.{K, O}
@@ -16,16 +16,14 @@ use Rattle.money.specs.Money.{fee}
 use Rattle.fee.specs.Fee.{rate}
 use Rattle.fee.specs.declared.Terms.{Terms}
 use Rattle.calendar.specs.Calendar.{real, leap, month_length}
-use Rattle.epe.specs.Questions.{first_no, is_passed, asked}
+use Rattle.epe.specs.Questions.{Verdict, Passed, Refused, first_no, is_passed, asked}
 use Rattle.epe.specs.Ident.{identifier, ident_of, same_ident, ident_in_form}
-use Rattle.epe.specs.Profile.{each, as_fees, profile_fits, rates_fit, terms_for}
+use Rattle.epe.specs.Profile.{as_fees, profile_fits, rates_fit, terms_for}
 use Rattle.epe.specs.Name.{name_questions, name_of, has_long_date, short_title, title_questions, title_of, long_title}
 use Rattle.epe.specs.declared.profile.Profile.{Profile}
-use Rattle.epe.specs.declared.verdict.Verdict.{Verdict}
-use Rattle.epe.specs.declared.verdict.Verdict.TheVariants.{Passed, Refused}
 
 is_identifier : String → Bool
-unfolding identifier letters_or_digits letter_or_digit letter digit
+unfolding identifier letter_or_digit letter digit
 is_identifier s = identifier (bytes s)
 
 -- 2, 3, 17 and 18 bytes; a digit among the first two; a byte that is neither.
@@ -36,27 +34,27 @@ identifiers = refl
 
 -- How one is held; what is none is held as no bytes.
 held : ident_of (bytes "ZS1") ≡ record { bytes = bytes "ZS1" ++ replicate 14 0; len = 3 }
-unfolding ident_of identifier letters_or_digits letter_or_digit letter digit
+unfolding ident_of identifier letter_or_digit letter digit
 held = refl
 
 none_held : ident_of (bytes "ZS") ≡ record { bytes = replicate 17 0; len = 0 }
-unfolding ident_of identifier letters_or_digits letter_or_digit letter digit
+unfolding ident_of identifier letter_or_digit letter digit
 none_held = refl
 
 -- Case counts.
 by_case : same_ident (ident_of (bytes "ZS1")) (ident_of (bytes "Zs1")) ≡ false
-unfolding same_ident ident_of identifier letters_or_digits letter_or_digit letter digit
+unfolding same_ident ident_of identifier letter_or_digit letter digit
 by_case = refl
 
 -- In no form: a length of 18 for 17 bytes, and a byte behind the length.
 out_of_form : map ident_in_form
     (record { bytes = bytes "ABCDEFGHIJKLMNopq"; len = 18 } ∷ record { bytes = bytes "ZS12" ++ replicate 13 0; len = 3 } ∷ [])
     ≡ false ∷ false ∷ []
-unfolding ident_in_form identifier letters_or_digits letter_or_digit letter digit
+unfolding ident_in_form identifier letter_or_digit letter digit
 out_of_form = refl
 
 judged : String → Verdict
-unfolding name_questions asked fields onto identifier letters_or_digits letter_or_digit letter number number_after is_number value_of digit real leap month_length
+unfolding name_questions asked fields onto identifier letter_or_digit letter number number_after digit real leap month_length
 judged s = first_no (name_questions (bytes s))
 
 -- Names that pass: the paper's, both payment kinds, the last kind, 29 February 2000.
@@ -83,12 +81,12 @@ kind_refused = refl
 
 parts : name_of (bytes "EPEZZS1-201007-B-3")
     ≡ record { ident = ident_of (bytes "ZS1"); date = record { 0 = 20201007 }; payment = 0x42; kind = 3 }
-unfolding name_of ident_of identifier letters_or_digits letter_or_digit letter fields onto number number_after value_of digit
+unfolding name_of ident_of identifier letter_or_digit letter fields onto number number_after digit
 parts = refl
 
 titled : String → Verdict
-unfolding title_of title_questions short_title has_long_date is_passed name_questions asked fields onto identifier letters_or_digits letter_or_digit letter number number_after is_number value_of digit real leap month_length
-titled s = (title_of (bytes s)).verdict
+unfolding title_of title_questions short_title has_long_date is_passed name_questions asked fields onto identifier letter_or_digit letter number number_after digit real leap month_length
+titled s = first_no (title_questions (bytes s))
 
 titles : map titled ("EPEZZS1-201007-A-0-K" ∷ "EPEZZS1-201007-A-0-O" ∷ []) ≡ Passed ∷ Passed ∷ []
 unfolding titled
@@ -156,7 +154,7 @@ abbrev profile : ℕ → ℕ → ℕ → Profile
 profile today flat r = rated today flat r 0
 
 is_fitting : Profile → Bool
-unfolding profile_fits each as_fees real leap month_length
+unfolding profile_fits as_fees real leap month_length
 is_fitting p = profile_fits p
 
 profiles : map is_fitting (profile 20201007 999999999 19 ∷ profile 20991231 0 32 ∷ []) ≡ true ∷ true ∷ []
@@ -171,7 +169,7 @@ profiles_refused = refl
 
 -- A rate at its cap and above it, of a kind that no file need have; and what is set for a kind, and for what is none.
 rates : map (λ (last : ℕ). rates_fit (rated 20201007 350 19 last).rates) (10_000 ∷ 10_001 ∷ []) ≡ true ∷ false ∷ []
-unfolding rates_fit each
+unfolding rates_fit
 rates = refl
 
 abbrev terms : ℕ → ℕ → Terms

@@ -8,7 +8,9 @@ use lib.Dec.{leb, eqb}
 use lib.ListN.{get_or}
 use Rattle.text.specs.Bytes.{same}
 use Rattle.text.specs.Quoted.{bytes}
-use Rattle.text.specs.Number.{number, is_number, value_of}
+use Rattle.text.specs.Number.{number}
+use Rattle.std.specs.Prelude.{is_some}
+use Rattle.std.specs.Option.{unwrap_or}
 use Rattle.text.proofs.Branches.{and_right, either_way}
 use Rattle.text.proofs.Same.{same_equal}
 use Rattle.calendar.specs.Calendar.{real}
@@ -28,9 +30,9 @@ pub parts_in_form : PartsInForm
 unfolding name_questions name_of name_in_form
 parts_in_form name passed =
     let answers = all_yes (name_questions name) passed in
-    let dated = and_right (is_number (number 6 6 (name_part 2 name))) (real (name_date name)) answers.1.1.1.1.0 in
-    let digit = value_of (number 1 1 (name_part 4 name)) in
-    let kind = and_right (is_number (number 1 1 (name_part 4 name))) (leb digit 4) answers.1.1.1.1.1.1.0 in
+    let dated = and_right (is_some (number 6 6 (name_part 2 name))) (real (name_date name)) answers.1.1.1.1.0 in
+    let digit = unwrap_or (number 1 1 (name_part 4 name)) 0 in
+    let kind = and_right (is_some (number 1 1 (name_part 4 name))) (leb digit 4) answers.1.1.1.1.1.1.0 in
     rw (
       held_in_form (name_ident name) answers.1.1.1.0,
       dated,

@@ -13,8 +13,7 @@ use mathlib.Core.List.{List, [], ◌∷◌, ◌++◌}
 use Prim.Native.Nat.{ℕ}
 use native.Mathlib.Omega.{arith}
 use Rattle.text.proofs.Branches.{either_way}
-use Rattle.epe.specs.Questions.{Question, ◌else_no◌, AllYes, first_no, RefusedBy, AcceptedIsAllYes, RefusedIsFirstNo, asked}
-use Rattle.epe.specs.declared.verdict.Verdict.TheVariants.{Passed, Refused}
+use Rattle.epe.specs.Questions.{Passed, Refused, Question, ◌else_no◌, AllYes, first_no, RefusedBy, AcceptedIsAllYes, RefusedIsFirstNo, asked}
 
 never : {n : ℕ} → Refused n ≡ Passed → ⊥
 never h = let apart : ◌≡◌ {A = ℕ} 0 1 = cc in omega arith

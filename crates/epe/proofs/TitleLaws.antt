@@ -1,7 +1,7 @@
 -- A title is read as the short one: which bytes that leaves, and what its parts are.
 -- Assumes nothing.
 use mathlib.Core.Path.{◌≡◌, refl, sym, ◌∙◌, ap}
-use mathlib.Core.Bool.{Bool, true, false, cond, ◌&&◌, false≢true}
+use mathlib.Core.Bool.{Bool, true, false, cond, ◌&&◌, ◌||◌, false≢true}
 use mathlib.Core.List.{List, [], ◌∷◌, ◌++◌, append_assoc}
 use Prim.Native.Nat.{ℕ, zero, suc, ◌+◌, ◌-◌, ◌<◌, ◌≤◌}
 use native.Mathlib.Omega.{arith}
@@ -12,11 +12,16 @@ use lib.Seq.{take-append-add, drop-append-add}
 use Rattle.text.specs.Bytes.{same}
 use Rattle.text.specs.Quoted.{bytes}
 use Rattle.text.specs.Fields.{fields, onto, cut_count}
-use Rattle.text.proofs.Branches.{and_left, and_right, cond_either, either_way}
+use Rattle.text.proofs.Branches.{and_left, and_right, second_no, cond_either, either_way}
 use Rattle.text.proofs.FieldsByCuts.{count_of_fields}
 use Rattle.text.proofs.Same.{same_equal}
-use Rattle.epe.specs.Name.{name_part, has_long_date, short_title, title_name, title_ending, title_questions, title_of, long_title, LongMeansShort}
-use Rattle.epe.specs.Inner.Cut.{PartsCut}
+use Rattle.std.specs.Prelude.{Some, None}
+use Rattle.money.specs.declared.Money.{Money}
+use Rattle.money.specs.declared.Money.TheVariants.{K, O}
+use Rattle.epe.specs.Questions.{Passed, Refused, ◌else_no◌, asked, first_no, is_passed}
+use Rattle.epe.specs.Name.{name_part, name_questions, name_of, has_long_date, short_title, title_name, title_ending, title_questions, title_of, title_read, long_title, LongMeansShort}
+use Rattle.epe.specs.Inner.Ending.{ending_money}
+use Rattle.epe.specs.declared.name.Name.{Name}
 use Rattle.epe.specs.Inner.Dated.{Dated}
 
 -- a byte before the first of some parts
@@ -232,11 +237,10 @@ before_ending title =
         (short_dated at.front (take (length at.rest - 2) at.rest) at.parts)
 
 -- the second part of a title, where another follows before its ending
-pub second_kept : (title : List ℕ) {name table : List ℕ} {count : ℕ} → PartsCut name table count → 2 ≤ count → name ≡ take (length title - 2) title
+pub second_kept : (title : List ℕ) {name : List ℕ} {count : ℕ} → count ≡ cut_count 4 0x2D name → 2 ≤ count → name ≡ take (length title - 2) title
     → name_part 2 name ≡ name_part 2 title
 unfolding cut_count
-second_kept title {name} cut two is_name =
-    let counted = cut.held in
+second_kept title {name} counted two is_name =
     let parts = count_of_fields 0x2D name in
     let more : suc 1 < length (fields 0x2D name) = omega arith in
     let n = length title - 2 in
@@ -287,4 +291,48 @@ long_of_six title six = go (parted title (omega (arith, six))) six
 
 pub long_means_short : LongMeansShort
 unfolding title_of title_questions
-long_means_short title six = rw (long_of_six title six)
+long_means_short title six = let same = long_of_six title six in (rw same refl, rw same refl)
+
+-- a title is read where its name passes and its ending names a money
+asked_alone : (t : Bool) (n : ℕ) → is_passed (first_no ((t else_no n) ∷ [])) ≡ t
+unfolding asked is_passed
+asked_alone true n = refl
+asked_alone false n = refl
+
+abbrev is_ending : List ℕ → Bool
+is_ending ending = same ending (bytes "-K") || same ending (bytes "-O")
+
+ends_in_none : (ending : List ℕ) → None ≡ ending_money ending → is_ending ending ≡ false
+unfolding ending_money
+ends_in_none ending h = go (same ending (bytes "-K")) (same ending (bytes "-O")) h
+  where
+    go : (k o : Bool) → None ≡ cond k (Some K) (cond o (Some O) None) → (k || o) ≡ false
+    go true o h = cc
+    go false true h = cc
+    go false false h = refl
+
+ends_in_one : (ending : List ℕ) (money : Money) → Some money ≡ ending_money ending → (is_ending ending ≡ true) × (money ≡ cond (same ending (bytes "-K")) K O)
+unfolding ending_money
+ends_in_one ending money h = go (same ending (bytes "-K")) (same ending (bytes "-O")) h
+  where
+    go : (k o : Bool) → Some money ≡ cond k (Some K) (cond o (Some O) None) → ((k || o) ≡ true) × (money ≡ cond k K O)
+    go true o h = (refl, cc)
+    go false true h = (refl, cc)
+    go false false h = cc
+
+module _ (title : List ℕ) where
+  pub no_money : None ≡ ending_money (title_ending title) → None ≡ title_read title
+  unfolding title_read title_questions
+  no_money none =
+      rw (asked_alone (is_passed (first_no (name_questions (title_name title))) && is_ending (title_ending title)) 11, ends_in_none (title_ending title) none, second_no (is_passed (first_no (name_questions (title_name title)))) false refl)
+
+  pub no_name : (n : ℕ) → Refused n ≡ first_no (name_questions (title_name title)) → None ≡ title_read title
+  unfolding title_read title_questions is_passed
+  no_name n refused = rw (asked_alone (is_passed (first_no (name_questions (title_name title))) && is_ending (title_ending title)) 11, sym refused)
+
+  pub title_is : (money : Money) (name : Name) → Some money ≡ ending_money (title_ending title) → Passed ≡ first_no (name_questions (title_name title))
+      → name ≡ name_of (title_name title) → Some (record { name = name; money = money }) ≡ title_read title
+  unfolding title_read title_questions title_of is_passed
+  title_is money name named passed is =
+      let ends = ends_in_one (title_ending title) money named in
+      rw (asked_alone (is_passed (first_no (name_questions (title_name title))) && is_ending (title_ending title)) 11, sym passed, ends.0, is, ends.1)

@@ -1,16 +1,16 @@
 -- "The name is `EPEZ` + identifier, yymmdd, A or B, kind 0 to 4, joined by hyphens." And the title of a transfer.
-use Rattle.std.specs.Prelude.{◌≡◌, Bool, true, cond, ◌&&◌, ◌||◌, List, [], ◌∷◌, ◌++◌, ℕ, ◌+◌, ◌-◌, eqb, leb, length, get_or, take, drop}
+use Rattle.std.specs.Prelude.{◌≡◌, Bool, true, cond, ◌&&◌, ◌||◌, List, [], ◌∷◌, ◌++◌, ℕ, ◌+◌, ◌-◌, eqb, leb, length, get_or, take, drop, is_some, Option, Some, None}
 use Rattle.text.specs.Bytes.{same}
 use Rattle.text.specs.Quoted.{bytes}
-use Rattle.text.specs.Number.{number, is_number, value_of}
+use Rattle.std.specs.Option.{unwrap_or}
+use Rattle.text.specs.Number.{number}
 use Rattle.text.specs.Fields.{fields}
 use Rattle.money.specs.declared.Money.TheVariants.{K, O}
 use Rattle.calendar.specs.Calendar.{real}
-use Rattle.epe.specs.Questions.{Question, ◌else_no◌, first_no, is_passed}
+use Rattle.epe.specs.Questions.{Question, ◌else_no◌, Passed, first_no, is_passed}
 use Rattle.epe.specs.Ident.{identifier, ident_of, ident_in_form}
 use Rattle.epe.specs.declared.name.Name.{Name}
 use Rattle.epe.specs.declared.name.Title.{Title}
-use Rattle.epe.specs.declared.verdict.Verdict.TheVariants.{Passed}
 
 -- Part n of a name, counted from 1. A hyphen is the byte 2D.
 abbrev pub name_part : ℕ → List ℕ → List ℕ
@@ -22,7 +22,7 @@ name_ident name = drop 4 (name_part 1 name)
 
 -- The date 20yymmdd of its second part, as a number.
 abbrev pub name_date : List ℕ → ℕ
-name_date name = 20000000 + value_of (number 6 6 (name_part 2 name))
+name_date name = 20000000 + unwrap_or (number 6 6 (name_part 2 name)) 0
 
 unfoldable pub name_questions : List ℕ → List Question
 name_questions name =
@@ -35,11 +35,11 @@ name_questions name =
     -- "Rest of its first part an identifier? 013"
     ∷ (identifier (name_ident name) else_no 13)
     -- "Second part six digits, a real date 20yymmdd? 016"
-    ∷ (is_number (number 6 6 (name_part 2 name)) && real (name_date name) else_no 16)
+    ∷ (is_some (number 6 6 (name_part 2 name)) && real (name_date name) else_no 16)
     -- "Third part A or B? 019"
     ∷ (same (name_part 3 name) (bytes "A") || same (name_part 3 name) (bytes "B") else_no 19)
     -- "Fourth part one digit 0 to 4? 022"
-    ∷ (is_number (number 1 1 (name_part 4 name)) && leb (value_of (number 1 1 (name_part 4 name))) 4 else_no 22)
+    ∷ (is_some (number 1 1 (name_part 4 name)) && leb (unwrap_or (number 1 1 (name_part 4 name)) 0) 4 else_no 22)
     ∷ []
 
 -- The parts of a name whose questions are answered yes.
@@ -48,7 +48,7 @@ name_of name = record {
   ident = ident_of (name_ident name);
   date = record { 0 = name_date name };
   payment = get_or (name_part 3 name) 0 0;
-  kind = value_of (number 1 1 (name_part 4 name));
+  kind = unwrap_or (number 1 1 (name_part 4 name)) 0;
 }
 
 -- The parts of a name are in form, as a book holds them.
@@ -89,17 +89,18 @@ title_questions title =
     else_no 11)
     ∷ []
 
--- What a title says: whether it is one, the name and the money.
+-- What a title says: the name and the money.
 unfoldable pub title_of : List ℕ → Title
-title_of title = record {
-  verdict = first_no (title_questions title);
-  name = name_of (title_name title);
-  money = cond (same (title_ending title) (bytes "-K")) K O;
-}
+title_of title = record { name = name_of (title_name title); money = cond (same (title_ending title) (bytes "-K")) K O }
+
+-- The same, if it is a title.
+unfoldable pub title_read : List ℕ → Option Title
+title_read title = cond (is_passed (first_no (title_questions title))) (Some (title_of title)) None
 
 -- A title with `20` before its date says what it says without: "`20` and a name's six mean what the six alone would".
 abbrev pub long_title : List ℕ → List ℕ
 long_title title = take (date_at title) title ++ (bytes "20" ++ drop (date_at title) title)
 
 abbrev pub LongMeansShort : Type 0
-LongMeansShort = (title : List ℕ) → length (name_part 2 title) ≡ 6 → title_of (long_title title) ≡ title_of title
+LongMeansShort = (title : List ℕ) → length (name_part 2 title) ≡ 6
+    → (first_no (title_questions (long_title title)) ≡ first_no (title_questions title)) × (title_of (long_title title) ≡ title_of title)

@@ -7,11 +7,9 @@ use Rattle.text.specs.Quoted.{bytes}
 use Rattle.text.specs.Utf8.{well_formed}
 use Rattle.text.specs.Fields.{fields}
 use Rattle.text.specs.Lines.{stray}
-use Rattle.epe.specs.Questions.{Question, ◌else_no◌, first_no}
-use Rattle.epe.specs.Name.{name_part, name_ident, name_questions, name_of}
+use Rattle.epe.specs.Questions.{Question, ◌else_no◌, Verdict, first_no}
+use Rattle.epe.specs.Name.{name_part, name_ident, name_questions}
 use Rattle.epe.specs.File.{marked, text, header, field}
-use Rattle.epe.specs.declared.file.Opening.{Opening}
-use Rattle.epe.specs.declared.verdict.Verdict.{Verdict}
 
 unfoldable pub file_questions : List ℕ → List Question
 file_questions file =
@@ -54,7 +52,3 @@ opening_questions name file =
 
 unfoldable pub opening : List ℕ → List ℕ → Verdict
 opening name file = first_no (opening_questions name file)
-
--- What the opening comes to, and the name's parts, which are in form where it passed.
-unfoldable pub opening_of : List ℕ → List ℕ → Opening
-opening_of name file = record { verdict = opening name file; name = name_of name }

@@ -2,6 +2,7 @@
 -- and R, the number of fields in a record line, 19 to 32." "The profile gives both per benefit kind, the flat part within the old fee range." (document
 -- 02, A5): the five fees are now the flat parts, and there are five rates.
 use Rattle.std.specs.Prelude.{◌≡◌, Bool, true, cond, ◌&&◌, List, [], ◌∷◌, map, ℕ, eqb, leb, length, get_or}
+use Rattle.std.specs.List.{list_all}
 use Rattle.text.specs.Bytes.{between}
 use Rattle.money.specs.Money.{fee, is_order_fee}
 use Rattle.money.specs.declared.Fee.{Fee}
@@ -17,9 +18,8 @@ abbrev pub kinds : ℕ
 kinds = 5
 
 -- Each of a list passes a test.
-unfoldable pub each : {A : Type 0} → (A → Bool) → List A → Bool
-each fits [] = true
-each fits (a ∷ rest) = fits a && each fits rest
+abbrev pub each : {A : Type 0} → (A → Bool) → List A → Bool
+each = list_all
 
 abbrev pub fees_fit : List Fee → Bool
 fees_fit fees = each (λ (one : Fee). is_order_fee one.0) fees

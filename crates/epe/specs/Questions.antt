@@ -1,7 +1,7 @@
 -- "Questions in order; the first "no" gives its number and the book is unchanged."
-use Rattle.std.specs.Prelude.{◌≡◌, Bool, true, false, cond, List, [], ◌∷◌, ◌++◌, ℕ}
-use Rattle.epe.specs.declared.verdict.Verdict.{Verdict}
-use Rattle.epe.specs.declared.verdict.Verdict.TheVariants.{Passed, Refused}
+use Rattle.std.specs.Prelude.{◌≡◌, Bool, true, false, cond, List, [], ◌∷◌, ◌++◌, ℕ, Result, Ok, Err}
+use Rattle.epe.specs.Refusal.{number_of}
+use Rattle.epe.specs.declared.refusal.Refusal.{Refusal}
 
 infix 20 ◌else_no◌
 -- A question's answer, and the number that a "no" gives.
@@ -17,12 +17,22 @@ unfoldable pub asked {ℓ} : {A : Type ℓ} → List Question → (ℕ → A) �
 asked [] refused next = next
 asked (q ∷ qs) refused next = cond q.yes? (asked qs refused next) (refused q.number)
 
+-- Every question is answered yes, or the number of the first that is not.
+pub data Verdict : Type 0 where
+  Passed : Verdict
+  Refused : ℕ → Verdict
+
 abbrev pub first_no : List Question → Verdict
 first_no qs = asked qs Refused Passed
 
 unfoldable pub is_passed : Verdict → Bool
 is_passed Passed = true
 is_passed (Refused n) = false
+
+-- What code answers, with the paper's number for each refusal.
+abbrev pub verdict_of : {A : Type 0} → Result A Refusal → Verdict
+verdict_of (Ok a) = Passed
+verdict_of (Err refusal) = Refused (number_of refusal)
 
 -- Every question of a list is answered yes.
 abbrev pub AllYes : List Question → Type 0

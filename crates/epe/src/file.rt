@@ -1,33 +1,29 @@
 // The opening of an order file: the file itself, its name, and the header's fields that the name repeats.
-ghost use Rattle.std.specs.Prelude.{◌≡◌, ◌&&◌};
+ghost use Rattle.std.specs.Prelude.{◌≡◌, ◌&&◌, IfOk};
 ghost use Rattle.text.specs.Utf8.{well_formed};
-ghost use Rattle.epe.specs.Questions.{first_no};
-ghost use Rattle.epe.specs.File.{marked, text};
-ghost use Rattle.epe.specs.Opening.{file_questions, opening, opening_of};
+ghost use Rattle.epe.specs.Questions.{first_no, verdict_of};
+ghost use Rattle.epe.specs.Name.{name_of};
+ghost use Rattle.epe.specs.File.{marked, text, header};
+ghost use Rattle.epe.specs.Opening.{file_questions, opening};
 ghost use Rattle.epe.specs.Inner.Walk.{body};
 
 use crate::header::judge_header;
-use crate::name::{Name, judge_name, name_of};
-use crate::refusals;
-use crate::verdict::{Verdict, is_passed};
-use text::bytes::{equal, first, rest, slice};
+use crate::name::{Name, Parts, judge_name, name_of};
+use crate::refusal::Refusal;
+use text::bytes::{first, rest};
 use text::lines::{line_end, without_last_end};
 
-// What the opening comes to, and the name's parts, which are in form where it passed.
-#[derive(Clone, Copy)]
-pub struct Opening {
-    pub verdict: Verdict,
-    pub name: Name,
-}
-
-// What the opening of a file comes to, and its name's parts.
-pub fn open(name: &[u8], file: &[u8]) -> Opening
-    ensures { result ≡ opening_of name.now file.now }
+// The questions 001 to 023 of a file: its name's parts, which are in form, or the first that is answered no.
+#[tactic(auto, using(crate::proofs::Asking::join_no, crate::proofs::Asking::join_yes), unfolding(crate::specs::Opening::opening, crate::specs::Opening::opening_questions))]
+pub fn open(name: &[u8], file: &[u8]) -> Result<Name, Refusal>
+    ensures verdict { verdict_of result ≡ opening name.now file.now }
+    ensures parts { IfOk result (λ parts. parts ≡ name_of name.now) }
 {
-    Opening {
-        verdict: judge_opening(name, file),
-        name: name_of(name),
-    }
+    judge_file(file)?;
+    let parts = Parts::of(name);
+    judge_name(&parts)?;
+    judge_header(&parts, header_of(file))?;
+    Ok(name_of(&parts))
 }
 
 // The file's text without the byte mark and without one CR LF at its very end.
@@ -37,36 +33,31 @@ pub fn body_of(file: &[u8]) -> &[u8]
     without_last_end(rest(file, 3))
 }
 
-// The questions 001 to 023.
-fn judge_opening(name: &[u8], file: &[u8]) -> Verdict
-    ensures { result ≡ opening name.now file.now }
+// The header, which is the first line.
+#[tactic(auto, using(crate::proofs::LineWalk::header_line))]
+pub fn header_of(file: &[u8]) -> &[u8]
+    ensures { result.now ≡ header file.now }
 {
-    let whole = judge_file(file);
-    if !is_passed(whole) {
-        return whole;
-    }
-    let named = judge_name(name);
-    if !is_passed(named) {
-        return named;
-    }
     let s = body_of(file);
-    judge_header(name, slice(s, 0, line_end(s, 0)))
+    first(s, line_end(s, 0))
 }
 
 // The questions 001 and 034.
-fn judge_file(file: &[u8]) -> Verdict
-    ensures { result ≡ first_no (file_questions file.now) }
+#[tactic(auto, using(crate::proofs::Asking::asking), unfolding(crate::specs::Opening::file_questions))]
+fn judge_file(file: &[u8]) -> Result<(), Refusal>
+    ensures { verdict_of result ≡ first_no (file_questions file.now) }
 {
-    if file.len() == 0 {
-        return Verdict::Refused(refusals::FILE_EMPTY);
+    if file.is_empty() {
+        return Err(Refusal::FileEmpty);
     }
     if !is_marked_text(file) {
-        return Verdict::Refused(refusals::FILE_TEXT);
+        return Err(Refusal::FileText);
     }
-    Verdict::Passed
+    Ok(())
 }
 
 // Is the byte mark there, and the rest well-formed UTF-8?
+#[tactic(auto, using(text::proofs::Branches::branches))]
 fn is_marked_text(file: &[u8]) -> bool
     ensures { result ≡ (marked file.now && well_formed (text file.now)) }
 {
@@ -74,8 +65,9 @@ fn is_marked_text(file: &[u8]) -> bool
 }
 
 // Is the byte mark there?
+#[tactic(auto, unfolding(crate::specs::File::marked))]
 fn is_marked(file: &[u8]) -> bool
     ensures { result ≡ marked file.now }
 {
-    equal(first(file, 3), &[0xEF, 0xBB, 0xBF])
+    first(file, 3) == [0xEF, 0xBB, 0xBF].as_slice()
 }

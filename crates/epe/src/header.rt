@@ -4,132 +4,90 @@ ghost use Rattle.text.specs.Bytes.{same};
 ghost use Rattle.text.specs.Quoted.{bytes};
 ghost use Rattle.text.specs.Fields.{fields};
 ghost use Rattle.text.specs.Lines.{stray};
-ghost use Rattle.epe.specs.Questions.{first_no};
+ghost use Rattle.epe.specs.Questions.{first_no, verdict_of};
 ghost use Rattle.epe.specs.Name.{name_part, name_ident};
 ghost use Rattle.epe.specs.File.{field};
-ghost use Rattle.epe.specs.Inner.Cut.{CutOf};
 ghost use Rattle.epe.specs.Opening.{fixed_questions, repeated_questions};
 
-use crate::line::{BAR, field_of, has_fields};
-use crate::name::part_of;
-use crate::refusals;
-use crate::verdict::{Verdict, is_passed};
-use text::bytes::{equal, first, rest};
+use crate::line::Line;
+use crate::name::{Parts, identifier_in};
+use crate::refusal::Refusal;
+use text::bytes::{first, rest};
+use text::lines::has_stray;
 
 // The header's questions 004 to 023.
-pub fn judge_header(name: &[u8], line: &[u8]) -> Verdict
-    ensures { result ≡ first_no (fixed_questions line.now ++ repeated_questions name.now line.now) }
+#[tactic(auto, using(crate::proofs::Asking::join_no, crate::proofs::Asking::join_yes))]
+pub fn judge_header(name: &Parts<'_>, line: &[u8]) -> Result<(), Refusal>
+    ensures { verdict_of result ≡ first_no (fixed_questions line.now ++ repeated_questions name.now.text.now line.now) }
 {
-    let mut table = [0usize; 32];
-    let count = text::fields::cut(line, BAR, &mut table);
-    let fixed = judge_fixed(line, &table, count);
-    if !is_passed(fixed) {
-        return fixed;
-    }
-    judge_repeated(name, line, &table, count)
+    let line = Line::of(line);
+    judge_fixed(&line)?;
+    judge_repeated(name, &line)
 }
 
 // The questions 004 to 099.
-fn judge_fixed(line: &[u8], table: &[usize], count: usize) -> Verdict
-    requires { CutOf line.now table.now count }
-    ensures { result ≡ first_no (fixed_questions line.now) }
+#[tactic(auto, using(crate::proofs::Asking::asking), unfolding(crate::specs::Opening::fixed_questions))]
+fn judge_fixed(line: &Line<'_>) -> Result<(), Refusal>
+    ensures { verdict_of result ≡ first_no (fixed_questions line.now.text.now) }
 {
-    if !is_header(line, table, count) {
-        return Verdict::Refused(refusals::HEADER_SHAPE);
+    if !is_header(line) {
+        return Err(Refusal::HeaderShape);
     }
-    if !field_is(line, table, count, 1, b"1") {
-        return Verdict::Refused(refusals::HEADER_MARK);
+    if !field_is(line, 1, b"1") {
+        return Err(Refusal::HeaderMark);
     }
-    if !field_is(line, table, count, 2, b"ZUS") {
-        return Verdict::Refused(refusals::HEADER_SENDER);
+    if !field_is(line, 2, b"ZUS") {
+        return Err(Refusal::HeaderSender);
     }
-    if !field_is(line, table, count, 3, b"EPE") {
-        return Verdict::Refused(refusals::HEADER_FILE_CODE);
+    if !field_is(line, 3, b"EPE") {
+        return Err(Refusal::HeaderFileCode);
     }
-    if !field_is(line, table, count, 4, b"1.0") {
-        return Verdict::Refused(refusals::HEADER_EDITION);
+    if !field_is(line, 4, b"1.0") {
+        return Err(Refusal::HeaderEdition);
     }
-    Verdict::Passed
+    Ok(())
 }
 
 // Has the line 12 fields, and no stray CR or LF?
-fn is_header(line: &[u8], table: &[usize], count: usize) -> bool
-    requires { CutOf line.now table.now count }
-    ensures { result ≡ (eqb (length (fields 0x7C line.now)) 12 && not (stray line.now)) }
+#[tactic(auto, using(text::proofs::Branches::branches))]
+fn is_header(line: &Line<'_>) -> bool
+    ensures { result ≡ (eqb (length (fields 0x7C line.now.text.now)) 12 && not (stray line.now.text.now)) }
 {
-    let parted = has_fields(line, table, count, 12);
-    let stray = text::lines::has_stray(line);
-    parted & !stray
+    line.has(12) && !has_stray(line.text())
 }
 
 // Does field n have just these bytes?
-fn field_is(line: &[u8], table: &[usize], count: usize, n: usize, wanted: &[u8]) -> bool
-    requires cut_of { CutOf line.now table.now count }
-    requires field_number { (1 ≤ n) × (n ≤ 32) }
-    ensures { result ≡ same (field n line.now) wanted.now }
+fn field_is(line: &Line<'_>, n: usize, wanted: &[u8]) -> bool
+    requires { (1 ≤ n) × (n ≤ 32) }
+    ensures { result ≡ same (field n line.now.text.now) wanted.now }
 {
-    equal(field_of(line, table, count, n), wanted)
+    line.nth(n) == wanted
 }
 
 // The questions 014 to 023.
-fn judge_repeated(name: &[u8], line: &[u8], table: &[usize], count: usize) -> Verdict
-    requires { CutOf line.now table.now count }
-    ensures { result ≡ first_no (repeated_questions name.now line.now) }
+#[tactic(auto, using(crate::proofs::Asking::asking), unfolding(crate::specs::Opening::repeated_questions))]
+fn judge_repeated(name: &Parts<'_>, line: &Line<'_>) -> Result<(), Refusal>
+    ensures { verdict_of result ≡ first_no (repeated_questions name.now.text.now line.now.text.now) }
 {
-    if !repeats_ident(name, line, table, count) {
-        return Verdict::Refused(refusals::HEADER_IDENTIFIER);
+    if !field_is(line, 5, identifier_in(name)) {
+        return Err(Refusal::HeaderIdentifier);
     }
-    if !repeats_date(name, line, table, count) {
-        return Verdict::Refused(refusals::HEADER_DATE);
+    if !is_dated(line.nth(8), name.nth(2)) {
+        return Err(Refusal::HeaderDate);
     }
-    if !repeats(name, 3, line, table, count, 9) {
-        return Verdict::Refused(refusals::HEADER_PAYMENT);
+    if !field_is(line, 9, name.nth(3)) {
+        return Err(Refusal::HeaderPayment);
     }
-    if !repeats(name, 4, line, table, count, 10) {
-        return Verdict::Refused(refusals::HEADER_KIND);
+    if !field_is(line, 10, name.nth(4)) {
+        return Err(Refusal::HeaderKind);
     }
-    Verdict::Passed
-}
-
-// Does field 5 repeat the name's identifier?
-fn repeats_ident(name: &[u8], line: &[u8], table: &[usize], count: usize) -> bool
-    requires { CutOf line.now table.now count }
-    ensures { result ≡ same (field 5 line.now) (name_ident name.now) }
-{
-    field_is(line, table, count, 5, rest(name_part(name, 1), 4))
-}
-
-// Part n of a name, counted from 1.
-fn name_part(name: &[u8], n: usize) -> &[u8]
-    requires { (1 ≤ n) × (n ≤ 4) }
-    ensures { result.now ≡ name_part n name.now }
-{
-    let mut table = [0usize; 4];
-    let count = text::fields::cut(name, b'-', &mut table);
-    part_of(name, &table, count, n)
-}
-
-// Does field 8 repeat the name's date, behind `20`?
-fn repeats_date(name: &[u8], line: &[u8], table: &[usize], count: usize) -> bool
-    requires { CutOf line.now table.now count }
-    ensures { result ≡ same (field 8 line.now) (bytes "20" ++ name_part 2 name.now) }
-{
-    is_dated(field_of(line, table, count, 8), name_part(name, 2))
+    Ok(())
 }
 
 // Is a text `20` and then the name's date?
+#[tactic(auto, using(text::proofs::Branches::branches, text::proofs::Same::same_joined))]
 fn is_dated(s: &[u8], date: &[u8]) -> bool
     ensures { result ≡ same s.now (bytes "20" ++ date.now) }
 {
-    equal(first(s, 2), b"20") && equal(rest(s, 2), date)
-}
-
-// Does field n repeat part k of the name?
-fn repeats(name: &[u8], k: usize, line: &[u8], table: &[usize], count: usize, n: usize) -> bool
-    requires cut_of { CutOf line.now table.now count }
-    requires field_number { (1 ≤ n) × (n ≤ 32) }
-    requires part_number { (1 ≤ k) × (k ≤ 4) }
-    ensures { result ≡ same (field n line.now) (name_part k name.now) }
-{
-    field_is(line, table, count, n, name_part(name, k))
+    first(s, 2) == b"20".as_slice() && rest(s, 2) == date
 }

@@ -8,5 +8,4 @@ pub mod ident;
 pub mod line;
 pub mod name;
 pub mod profile;
-pub mod refusals;
-pub mod verdict;
+pub mod refusal;

@@ -1,30 +1,30 @@
 // The name of an order file, and the title of a transfer.
-ghost use Rattle.std.specs.Prelude.{◌≡◌, cond, ◌&&◌, ◌||◌, List, [], ◌∷◌, ℕ, ◌+◌, ◌-◌, ◌≤◌, eqb, leb, length, get_or, take};
+ghost use Rattle.std.specs.Prelude.{◌≡◌, ◌&&◌, ◌||◌, List, ℕ, ◌+◌, ◌-◌, ◌≤◌, eqb, leb, length, get_or, take, is_some};
+ghost use Rattle.std.specs.Option.{unwrap_or};
 ghost use Rattle.text.specs.Bytes.{same};
 ghost use Rattle.text.specs.Quoted.{bytes};
-ghost use Rattle.text.specs.Number.{number, is_number, value_of};
+ghost use Rattle.text.specs.Number.{number};
 ghost use Rattle.text.specs.Fields.{fields};
 ghost use Rattle.calendar.specs.Calendar.{real};
-ghost use Rattle.money.specs.declared.Money.TheVariants.{K, O};
-ghost use Rattle.epe.specs.Questions.{◌else_no◌, first_no, is_passed};
+ghost use Rattle.epe.specs.Questions.{first_no, verdict_of};
 ghost use Rattle.epe.specs.Ident.{identifier};
-ghost use Rattle.epe.specs.Name.{name_part, name_ident, name_questions, name_of, title_name, title_ending, title_of};
-ghost use Rattle.epe.specs.Inner.Cut.{PartsCut};
+ghost use Rattle.epe.specs.Name.{name_part, name_ident, name_questions, name_of, title_name, title_read};
+ghost use Rattle.epe.specs.Inner.Ending.{ending_money};
 ghost use Rattle.epe.specs.Inner.Dated.{Dated};
 
 use crate::ident::{Ident, ident_of, is_identifier};
-use crate::refusals;
-use crate::verdict::{Verdict, is_passed};
+use crate::refusal::Refusal;
 use calendar::date::{Date, is_real};
 use money::Money;
-use text::bytes::{byte_at, equal, first, rest};
-use text::fields::{cut, field};
-use text::number::{is_number, read, value_of};
+use text::bytes::{byte_at, first, rest};
+use text::fields::Fields;
+use text::number::read;
 
-const HYPHEN: u8 = b'-';
+// A name and where its hyphens stand, whose parts are four.
+pub type Parts<'a> = Fields<'a, b'-', 4>;
 
 // The parts of a name.
-#[derive(Clone, Copy)]
+#[derive(Clone, Copy, PartialEq, Eq, Debug)]
 pub struct Name {
     pub ident: Ident,
     pub date: Date,
@@ -32,282 +32,201 @@ pub struct Name {
     pub kind: u64,
 }
 
-// What a title says.
-#[derive(Clone, Copy)]
+// What a title says: the name of a shipment, and a money.
+#[derive(Clone, Copy, PartialEq, Eq, Debug)]
 pub struct Title {
-    pub verdict: Verdict,
     pub name: Name,
     pub money: Money,
 }
 
 // The first question of a name that is answered no.
-pub fn judge_name(name: &[u8]) -> Verdict
-    ensures { result ≡ first_no (name_questions name.now) }
+#[tactic(auto, using(crate::proofs::TitleLaws::dated_itself))]
+pub fn judge_name(name: &Parts<'_>) -> Result<(), Refusal>
+    ensures { verdict_of result ≡ first_no (name_questions name.now.text.now) }
 {
-    let mut table = [0usize; 4];
-    let count = cut(name, HYPHEN, &mut table);
-    judge_parts(name, &table, count, part_of(name, &table, count, 2))
+    judge_parts(name, name.nth(2))
 }
 
 // The parts of a name, as far as it has them.
-pub fn name_of(name: &[u8]) -> Name
-    ensures { result ≡ name_of name.now }
+#[tactic(auto, using(crate::proofs::TitleLaws::dated_itself))]
+pub fn name_of(name: &Parts<'_>) -> Name
+    ensures { result ≡ name_of name.now.text.now }
 {
-    let mut table = [0usize; 4];
-    let count = cut(name, HYPHEN, &mut table);
-    read_parts(name, &table, count, part_of(name, &table, count, 2))
+    read_parts(name, name.nth(2))
 }
 
-// What a title says: whether it is one, the name and the money.
-pub fn read_title(title: &[u8]) -> Title
-    ensures { result ≡ title_of title.now }
+// What a title says, if it is one.
+#[tactic(auto, using(crate::proofs::TitleLaws::no_money, crate::proofs::TitleLaws::no_name, crate::proofs::TitleLaws::title_is, crate::proofs::TitleLaws::ending_kept))]
+pub fn read_title(title: &[u8]) -> Option<Title>
+    ensures { result ≡ title_read title.now }
 {
-    let name = before_ending(title);
-    let ending = title_ending(title);
-    let mut table = [0usize; 4];
-    let count = cut(name, HYPHEN, &mut table);
-    let date = title_date(title, name, &table, count);
-    Title {
-        verdict: judge_title(judge_parts(name, &table, count, date), ending),
-        name: read_parts(name, &table, count, date),
-        money: money_of(ending),
-    }
+    let ending = rest(title, ending_at(title));
+    let name = Parts::of(first(title, ending_at(title)));
+    let date = title_date(title, &name);
+    let money = money_of(ending)?;
+    judge_parts(&name, date).ok()?;
+    Some(Title {
+        name: read_parts(&name, date),
+        money,
+    })
 }
 
 // The first question that is answered no of a name with this second part.
-fn judge_parts(name: &[u8], table: &[usize], count: usize, date: &[u8]) -> Verdict
-    requires { PartsCut name.now table.now count }
-    ensures { (meant : List ℕ) → Dated name.now date.now meant → result ≡ first_no (name_questions meant) }
+fn judge_parts(name: &Parts<'_>, date: &[u8]) -> Result<(), Refusal>
+    ensures { (meant : List ℕ) → Dated name.now.text.now date.now meant → verdict_of result ≡ first_no (name_questions meant) }
 {
-    if !has_parts(name, table, count) {
-        return Verdict::Refused(refusals::NAME_HYPHENS);
+    if !name.has(4) {
+        return Err(Refusal::NameHyphens);
     }
     if !starts_epe(name) {
-        return Verdict::Refused(refusals::NAME_EPE);
+        return Err(Refusal::NameEpe);
     }
     if !has_z(name) {
-        return Verdict::Refused(refusals::NAME_Z);
+        return Err(Refusal::NameZ);
     }
-    if !has_identifier(name, table, count) {
-        return Verdict::Refused(refusals::NAME_IDENTIFIER);
+    if !has_identifier(name) {
+        return Err(Refusal::NameIdentifier);
     }
     if !is_date(date) {
-        return Verdict::Refused(refusals::NAME_DATE);
+        return Err(Refusal::NameDate);
     }
-    if !has_payment(name, table, count) {
-        return Verdict::Refused(refusals::NAME_PAYMENT);
+    if !has_payment(name) {
+        return Err(Refusal::NamePayment);
     }
-    if !has_kind(name, table, count) {
-        return Verdict::Refused(refusals::NAME_KIND);
+    if !has_kind(name) {
+        return Err(Refusal::NameKind);
     }
-    Verdict::Passed
+    Ok(())
 }
 
 // The parts of a name with this second part.
-fn read_parts(name: &[u8], table: &[usize], count: usize, date: &[u8]) -> Name
-    requires { PartsCut name.now table.now count }
-    ensures { (meant : List ℕ) → Dated name.now date.now meant → result ≡ name_of meant }
+#[tactic(auto, unfolding(crate::specs::Name::name_of))]
+fn read_parts(name: &Parts<'_>, date: &[u8]) -> Name
+    ensures { (meant : List ℕ) → Dated name.now.text.now date.now meant → result ≡ name_of meant }
 {
     Name {
-        ident: ident_of(identifier_in(name, table, count)),
+        ident: ident_of(identifier_in(name)),
         date: date_of(date),
-        payment: byte_at(part_of(name, table, count, 3), 0),
-        kind: kind_in(name, table, count),
+        payment: byte_at(name.nth(3), 0),
+        kind: kind_in(name),
     }
 }
 
-// Has the name four parts, and so three hyphens?
-fn has_parts(name: &[u8], table: &[usize], count: usize) -> bool
-    requires { PartsCut name.now table.now count }
-    ensures { result ≡ eqb (length (fields 0x2D name.now)) 4 }
+// The rest of its first part, behind EPEZ.
+pub fn identifier_in<'a>(name: &Parts<'a>) -> &'a [u8]
+    ensures { result.now ≡ name_ident name.now.text.now }
 {
-    count == 3
-}
-
-// Part n of a name, counted from 1.
-pub fn part_of<'a, 'b>(name: &'a [u8], table: &'b [usize], count: usize, n: usize) -> &'a [u8]
-    requires parts_cut { PartsCut name.now table.now count }
-    requires part_number { (1 ≤ n) × (n ≤ 4) }
-    ensures { result.now ≡ name_part n name.now }
-{
-    field(name, table, count, n - 1)
+    rest(name.nth(1), 4)
 }
 
 // Does the name start EPE?
-fn starts_epe(name: &[u8]) -> bool
-    ensures { result ≡ same (take 3 name.now) (bytes "EPE") }
+fn starts_epe(name: &Parts<'_>) -> bool
+    ensures { result ≡ same (take 3 name.now.text.now) (bytes "EPE") }
 {
-    equal(first(name, 3), b"EPE")
+    first(name.text(), 3) == b"EPE".as_slice()
 }
 
 // Has it a Z then?
-fn has_z(name: &[u8]) -> bool
-    ensures { result ≡ eqb (get_or name.now 3 0) 0x5A }
+fn has_z(name: &Parts<'_>) -> bool
+    ensures { result ≡ eqb (get_or name.now.text.now 3 0) 0x5A }
 {
-    byte_at(name, 3) == b'Z'
+    byte_at(name.text(), 3) == b'Z'
 }
 
-// The rest of its first part, behind EPEZ.
-fn identifier_in<'a, 'b>(name: &'a [u8], table: &'b [usize], count: usize) -> &'a [u8]
-    requires { PartsCut name.now table.now count }
-    ensures { result.now ≡ name_ident name.now }
+// Is the rest of its first part an identifier?
+fn has_identifier(name: &Parts<'_>) -> bool
+    ensures { result ≡ identifier (name_ident name.now.text.now) }
 {
-    rest(part_of(name, table, count, 1), 4)
-}
-
-// Is that an identifier?
-fn has_identifier(name: &[u8], table: &[usize], count: usize) -> bool
-    requires { PartsCut name.now table.now count }
-    ensures { result ≡ identifier (name_ident name.now) }
-{
-    is_identifier(identifier_in(name, table, count))
+    is_identifier(identifier_in(name))
 }
 
 // The date 20yymmdd of a second part.
 fn date_of(part: &[u8]) -> Date
-    ensures { result.0 ≡ 20000000 + value_of (number 6 6 part.now) }
+    ensures { result.0 ≡ 20000000 + unwrap_or (number 6 6 part.now) 0 }
 {
-    Date(20_000_000 + value_of(read(part, 6, 6)))
+    Date(20_000_000 + read(part, 6, 6).unwrap_or(0))
 }
 
 // Is a second part six digits, a real date 20yymmdd?
+#[tactic(auto, using(text::proofs::Branches::branches))]
 fn is_date(part: &[u8]) -> bool
-    ensures { result ≡ (is_number (number 6 6 part.now) && real (20000000 + value_of (number 6 6 part.now))) }
+    ensures { result ≡ (is_some (number 6 6 part.now) && real (20000000 + unwrap_or (number 6 6 part.now) 0)) }
 {
-    is_number(read(part, 6, 6)) && is_real(date_of(part))
+    read(part, 6, 6).is_some() && is_real(date_of(part))
 }
 
 // Is its third part A or B?
-fn has_payment(name: &[u8], table: &[usize], count: usize) -> bool
-    requires { PartsCut name.now table.now count }
-    ensures { result ≡ (same (name_part 3 name.now) (bytes "A") || same (name_part 3 name.now) (bytes "B")) }
+#[tactic(auto, using(text::proofs::Branches::branches))]
+fn has_payment(name: &Parts<'_>) -> bool
+    ensures { result ≡ (same (name_part 3 name.now.text.now) (bytes "A") || same (name_part 3 name.now.text.now) (bytes "B")) }
 {
-    let part = part_of(name, table, count, 3);
-    equal(part, b"A") || equal(part, b"B")
+    let part = name.nth(3);
+    part == b"A".as_slice() || part == b"B".as_slice()
 }
 
 // The one digit of its fourth part.
-fn kind_in(name: &[u8], table: &[usize], count: usize) -> u64
-    requires { PartsCut name.now table.now count }
-    ensures { result ≡ value_of (number 1 1 (name_part 4 name.now)) }
+fn kind_in(name: &Parts<'_>) -> u64
+    ensures { result ≡ unwrap_or (number 1 1 (name_part 4 name.now.text.now)) 0 }
 {
-    kind_of(part_of(name, table, count, 4))
+    read(name.nth(4), 1, 1).unwrap_or(0)
 }
 
 // Is its fourth part one digit 0 to 4?
-fn has_kind(name: &[u8], table: &[usize], count: usize) -> bool
-    requires { PartsCut name.now table.now count }
-    ensures { result ≡ (is_number (number 1 1 (name_part 4 name.now)) && leb (value_of (number 1 1 (name_part 4 name.now))) 4) }
+#[tactic(auto, using(text::proofs::Branches::branches))]
+fn has_kind(name: &Parts<'_>) -> bool
+    ensures { result ≡ (is_some (number 1 1 (name_part 4 name.now.text.now)) && leb (unwrap_or (number 1 1 (name_part 4 name.now.text.now)) 0) 4) }
 {
-    is_kind(part_of(name, table, count, 4))
-}
-
-// The one digit of a fourth part.
-fn kind_of(part: &[u8]) -> u64
-    ensures { result ≡ value_of (number 1 1 part.now) }
-{
-    value_of(read(part, 1, 1))
-}
-
-// Is a fourth part one digit 0 to 4?
-fn is_kind(part: &[u8]) -> bool
-    ensures { result ≡ (is_number (number 1 1 part.now) && leb (value_of (number 1 1 part.now)) 4) }
-{
-    is_number(read(part, 1, 1)) && kind_of(part) <= 4
-}
-
-// The question of a title, by the verdict on its name and its ending.
-fn judge_title(name: Verdict, ending: &[u8]) -> Verdict
-    ensures { result ≡ first_no ((is_passed name && (same ending.now (bytes "-K") || same ending.now (bytes "-O")) else_no 11) ∷ []) }
-{
-    if !is_title(name, ending) {
-        return Verdict::Refused(refusals::TITLE);
-    }
-    Verdict::Passed
-}
-
-// Is it a name, and then `-K` or `-O`?
-fn is_title(name: Verdict, ending: &[u8]) -> bool
-    ensures { result ≡ (is_passed name && (same ending.now (bytes "-K") || same ending.now (bytes "-O"))) }
-{
-    is_passed(name) && is_ending(ending)
+    read(name.nth(4), 1, 1).is_some() && kind_in(name) <= 4
 }
 
 // The second part of what stands before a title's ending, without its 20 where that makes it a long one.
-fn title_date<'a, 'b>(title: &'a [u8], name: &'a [u8], table: &'b [usize], count: usize) -> &'a [u8]
-    requires { PartsCut name.now table.now count }
-    ensures { name.now ≡ take (length title.now - 2) title.now → Dated name.now result.now (title_name title.now) }
+fn title_date<'a>(title: &'a [u8], name: &Parts<'a>) -> &'a [u8]
+    ensures { name.now.text.now ≡ take (length title.now - 2) title.now → Dated name.now.text.now result.now (title_name title.now) }
 {
-    let date = part_of(name, table, count, 2);
-    if is_long_date(second_part(title, name, table, count)) {
+    let date = name.nth(2);
+    if is_long_date(second_part(title, name)) {
         return rest(date, 2);
     }
     date
 }
 
 // The second part of a title: that of what stands before its ending, where another part follows it there.
-fn second_part<'a, 'b>(
-    title: &'a [u8],
-    name: &'a [u8],
-    table: &'b [usize],
-    count: usize,
-) -> &'a [u8]
-    requires { PartsCut name.now table.now count }
-    ensures { name.now ≡ take (length title.now - 2) title.now → result.now ≡ name_part 2 title.now }
+#[tactic(auto, using(crate::proofs::TitleLaws::second_kept))]
+fn second_part<'a>(title: &'a [u8], name: &Parts<'a>) -> &'a [u8]
+    ensures { name.now.text.now ≡ take (length title.now - 2) title.now → result.now ≡ name_part 2 title.now }
 {
-    if 2 <= count {
-        return part_of(name, table, count, 2);
+    if 2 <= name.cuts() {
+        return name.nth(2);
     }
-    let mut places = [0usize; 2];
-    let found = cut(title, HYPHEN, &mut places);
-    field(title, &places, found, 1)
+    let title = Parts::of(title);
+    title.nth(2)
 }
 
 // Is a second part eight bytes that begin 20?
+#[tactic(auto, using(text::proofs::Branches::branches))]
 fn is_long_date(part: &[u8]) -> bool
     ensures { result ≡ (eqb (length part.now) 8 && same (take 2 part.now) (bytes "20")) }
 {
-    part.len() == 8 && equal(first(part, 2), b"20")
+    part.len() == 8 && first(part, 2) == b"20".as_slice()
 }
 
-// What stands before a title's ending.
-fn before_ending(title: &[u8]) -> &[u8]
-    ensures { result.now ≡ take (length title.now - 2) title.now }
-{
-    first(title, ending_at(title))
-}
-
-// The ending of a title: its last two bytes.
-fn title_ending(title: &[u8]) -> &[u8]
-    ensures { result.now ≡ title_ending title.now }
-{
-    rest(title, ending_at(title))
-}
-
-// Where the ending of a title starts.
+// Where the ending of a title starts: its last two bytes.
 fn ending_at(title: &[u8]) -> usize
     ensures { result ≡ length title.now - 2 }
 {
-    let n = title.len();
-    if n < 2 {
-        return 0;
-    }
-    n - 2
+    title.len().saturating_sub(2)
 }
 
-// Is an ending `-K` or `-O`?
-fn is_ending(ending: &[u8]) -> bool
-    ensures { result ≡ (same ending.now (bytes "-K") || same ending.now (bytes "-O")) }
+// The money that an ending `-K` or `-O` names.
+#[tactic(auto, using(text::proofs::Branches::branches), unfolding(crate::specs::Inner::Ending::ending_money))]
+fn money_of(ending: &[u8]) -> Option<Money>
+    ensures { result ≡ ending_money ending.now }
 {
-    equal(ending, b"-K") || equal(ending, b"-O")
-}
-
-// The money that an ending names.
-fn money_of(ending: &[u8]) -> Money
-    ensures { result ≡ cond (same ending.now (bytes "-K")) K O }
-{
-    if equal(ending, b"-K") {
-        return Money::K;
+    if ending == b"-K".as_slice() {
+        Some(Money::K)
+    } else if ending == b"-O".as_slice() {
+        Some(Money::O)
+    } else {
+        None
     }
-    Money::O
 }

@@ -4,13 +4,13 @@ use mathlib.Core.Path.{◌≡◌, refl}
 use mathlib.Core.Bool.{true, false}
 use mathlib.Core.List.{[], ◌∷◌, map}
 use Prim.Native.Nat.{ℕ, ◌+◌, ◌*◌, ◌-◌}
+use Rattle.std.specs.Prelude.{Some, None, Ok, Err}
 use Rattle.money.specs.Money.{amount, fee}
 use Rattle.fee.specs.Fee.{rate, is_rate, charge_of, charged_by, divides}
 use Rattle.fee.specs.Total.{makes, found_for, amount_for}
 use Rattle.fee.specs.declared.Charge.{Charge}
-use Rattle.fee.specs.declared.Charging.TheVariants.{Of, Above}
 use Rattle.fee.specs.declared.Terms.{Terms}
-use Rattle.fee.specs.declared.total.AmountFound.TheVariants.{Is, Not, Refused}
+use Rattle.fee.specs.declared.refusal.Refusal.TheVariants.{FlatPart, Rate}
 
 abbrev terms : ℕ → ℕ → Terms
 terms flat percent = record { flat = fee flat; rate = rate percent }
@@ -37,7 +37,7 @@ whole = refl
 rate_cap_lem : map is_rate (0 ∷ 10_000 ∷ 10_001 ∷ []) ≡ true ∷ true ∷ false ∷ []
 rate_cap_lem = refl
 
-fee_cap : map (charged_by (terms 1 10_000)) (999_999_998 ∷ 999_999_999 ∷ []) ≡ Of (charge 999_999_999 0) ∷ Above ∷ []
+fee_cap : map (charged_by (terms 1 10_000)) (999_999_998 ∷ 999_999_999 ∷ []) ≡ Some (charge 999_999_999 0) ∷ None ∷ []
 unfolding charged_by
 fee_cap = refl
 
@@ -63,24 +63,24 @@ totals : amount_for 350 0 10_350
     ∷ amount_for 5 0 5
     ∷ amount_for 5 0 0
     ∷ []
-    ≡ Is (amount 10_000) ∷ Not ∷ Is (amount 999_999_999) ∷ Not ∷ Not ∷ Not ∷ []
+    ≡ Ok (Some (amount 10_000)) ∷ Ok None ∷ Ok (Some (amount 999_999_999)) ∷ Ok None ∷ Ok None ∷ Ok None ∷ []
 unfolding amount_for found_for makes
 totals = refl
 
 -- 3.50 and 1.25 per cent: the rated parts of 79, 80 and 81 grosze are 0, 1 and 1, so that nothing makes 430. 79 is 10,000 times 79 over 10,125, rounded up.
-rounded : map (amount_for 350 125) (429 ∷ 430 ∷ 431 ∷ 432 ∷ []) ≡ Is (amount 79) ∷ Not ∷ Is (amount 80) ∷ Is (amount 81) ∷ []
+rounded : map (amount_for 350 125) (429 ∷ 430 ∷ 431 ∷ 432 ∷ []) ≡ Ok (Some (amount 79)) ∷ Ok None ∷ Ok (Some (amount 80)) ∷ Ok (Some (amount 81)) ∷ []
 unfolding amount_for found_for makes
 rounded = refl
 
 -- Its edges: one grosz; a total below the flat part; far out of reach; the largest total with no rate, and one more.
 edges : amount_for 0 0 1 ∷ amount_for 350 125 349 ∷ amount_for 0 0 18_446_744_073_709_551_615 ∷ amount_for 999_999_999 0 1_999_999_998
     ∷ amount_for 999_999_999 0 1_999_999_999 ∷ []
-    ≡ Is (amount 1) ∷ Not ∷ Not ∷ Is (amount 999_999_999) ∷ Not ∷ []
+    ≡ Ok (Some (amount 1)) ∷ Ok None ∷ Ok None ∷ Ok (Some (amount 999_999_999)) ∷ Ok None ∷ []
 unfolding amount_for found_for makes
 edges = refl
 
 -- "907 comes first here, then 905 for the flat part."
 total_questions : amount_for 999_999_999 10_000 2_000 ∷ amount_for 1_000_000_000 10_000 2_000 ∷ amount_for 0 10_001 2_000 ∷ amount_for 1_000_000_000 10_001 2_000 ∷ []
-    ≡ Not ∷ Refused 905 ∷ Refused 907 ∷ Refused 907 ∷ []
+    ≡ Ok None ∷ Err FlatPart ∷ Err Rate ∷ Err Rate ∷ []
 unfolding amount_for found_for makes
 total_questions = refl

@@ -2,21 +2,20 @@
 -- Assumes nothing.
 use mathlib.Core.Path.{◌≡◌, refl, sym, ◌∙◌, ap}
 use mathlib.Core.Bool.{Bool, true, false, cond, ◌&&◌, false≢true}
-use Prim.Native.Nat.{ℕ, ◌+◌, ◌*◌, ◌-◌, ◌^◌, ◌≤◌, ◌<◌}
+use Prim.Native.Nat.{ℕ, ◌+◌, ◌*◌, ◌-◌, ◌^◌, ◌≤◌}
 use native.Mathlib.Nat.{div-eq_of_lt-le, mul-add, add-mul}
 use native.Mathlib.Omega.{arith}
-use borrow.Author.Tests.{leb-true, ltb-true, eqb-true, le-leb, lt-ltb}
+use borrow.Author.Tests.{leb-true, eqb-true, le-leb, lt-ltb}
 use lib.Dec.{leb, ltb, eqb}
+use Rattle.std.specs.Prelude.{Option, Some, None, Ok, Err}
+use Rattle.money.specs.declared.Amount.{Amount}
 use Rattle.text.proofs.Branches.{and_left, and_right, both_yes, either_way}
 use Rattle.money.specs.Money.{amount, order_cap, is_order_amount, is_order_fee, WithinOrder}
-use Rattle.fee.specs.Fee.{rate_cap, is_rate, fee_of, charged_by, is_charged}
+use Rattle.fee.specs.Fee.{rate_cap, is_rate, fee_of}
 use Rattle.fee.specs.Total.{total_of, makes, candidate, found_for, terms_of, amount_for, AnswersTotal}
-use Rattle.fee.specs.declared.Charge.{Charge}
-use Rattle.fee.specs.declared.Charging.TheVariants.{Of, Above}
 use Rattle.fee.specs.declared.Terms.{Terms}
-use Rattle.fee.specs.declared.total.AmountFound.{AmountFound}
-use Rattle.fee.specs.declared.total.AmountFound.TheVariants.{Is, Not, Refused}
-use Rattle.fee.proofs.Charged.{charge_is}
+use Rattle.fee.specs.declared.refusal.Refusal.{Refusal}
+use Rattle.fee.specs.declared.refusal.Refusal.TheVariants.{FlatPart, Rate}
 
 -- what an amount that makes a total is
 record Making (terms : Terms) (total grosze : ℕ) : Type 0 where
@@ -57,10 +56,6 @@ module _ (terms : Terms) (total grosze : ℕ) (does : makes terms total grosze �
       (le-leb terms.flat.0 total (omega (arith, it.equal)))
       (lt-ltb total (2 ^ 32) (omega (arith, it.equal, it.order, it.fee)))
 
-pub reached : (flat total : ℕ) → (leb flat total && ltb total (2 ^ 32)) ≡ true → (flat ≤ total) × (total < 2 ^ 32)
-reached flat total h =
-    (leb-true flat total (and_left (leb flat total) (ltb total (2 ^ 32)) h), ltb-true total (2 ^ 32) (and_right (leb flat total) (ltb total (2 ^ 32)) h))
-
 -- none that makes a total, where the candidate does not
 pub none_makes : (terms : Terms) (total : ℕ) → makes terms total (candidate terms total) ≡ false → (grosze : ℕ) → makes terms total grosze ≡ false
 none_makes terms total none grosze =
@@ -71,68 +66,26 @@ none_makes terms total none grosze =
 pub makes_within : (terms : Terms) (total grosze : ℕ) → makes terms total grosze ≡ true → WithinOrder grosze
 makes_within terms total grosze does = (making terms total grosze does).order
 
-pub out_of_reach : (terms : Terms) (total : ℕ) → (leb terms.flat.0 total && ltb total (2 ^ 32)) ≡ false → Not ≡ found_for terms total
+pub out_of_reach : (terms : Terms) (total : ℕ) → (leb terms.flat.0 total && ltb total (2 ^ 32)) ≡ false → None ≡ found_for terms total
 unfolding found_for
 out_of_reach terms total far =
     either_way (makes terms total (candidate terms total))
     (λ does. absurd (false≢true (sym far ∙ in_reach terms total (candidate terms total) does)))
     (λ not. rw not refl)
 
--- an amount within its range, asked by what it is charged
-fee_asked : (terms : Terms) (grosze : ℕ) → is_charged (charged_by terms grosze) ≡ is_order_fee (fee_of terms grosze)
-unfolding charged_by is_charged
-fee_asked terms grosze = either_way (is_order_fee (fee_of terms grosze)) (λ yes. rw yes) (λ no. rw no)
-
-fee_fits_holds : (terms : Terms) (grosze : ℕ) (charge : Charge) → Of charge ≡ charged_by terms grosze → is_order_fee (fee_of terms grosze) ≡ true
-unfolding is_charged
-fee_fits_holds terms grosze charge is = sym (fee_asked terms grosze) ∙ sym (ap is_charged is)
-
-pub fee_within : (terms : Terms) (grosze : ℕ) (charge : Charge) → Of charge ≡ charged_by terms grosze → WithinOrder charge.fee.0
-fee_within terms grosze charge is =
-    let within = leb-true (fee_of terms grosze) order_cap (fee_fits_holds terms grosze charge is) in
-    rw (charge_is terms grosze within charge is) within
-
-module _ (terms : Terms) (total grosze : ℕ) (in_range : is_order_amount grosze ≡ true) where
-  pub told_by_charge : (charge : Charge) → Of charge ≡ charged_by terms grosze → eqb (grosze + charge.fee.0) total ≡ makes terms total grosze
-  unfolding makes
-  told_by_charge charge is =
-      let fits = fee_fits_holds terms grosze charge is in
-      rw (in_range, fits) (ap (λ c. eqb (grosze + c.fee.0) total) (charge_is terms grosze (leb-true (fee_of terms grosze) order_cap fits) charge is))
-
-  pub told_above : Above ≡ charged_by terms grosze → false ≡ makes terms total grosze
-  unfolding is_charged makes
-  told_above is = rw (in_range, sym (fee_asked terms grosze) ∙ sym (ap is_charged is))
-
--- whether an answer is a refusal, and whether it is an amount
-abbrev refuses : AmountFound → Bool
-refuses (Is found) = false
-refuses Not = false
-refuses (Refused n) = true
-
-abbrev finds : AmountFound → Bool
-finds (Is found) = true
-finds Not = false
-finds (Refused n) = false
-
 -- what is answered behind two questions, where that is no refusal
-behind_both : (t u : Bool) (first second : ℕ) (last answer : AmountFound) → refuses answer ≡ false → cond t (cond u last (Refused second)) (Refused first) ≡ answer
-    → last ≡ answer
-behind_both true true first second last answer kept e = e
-behind_both true false first second last answer kept e = absurd (false≢true (sym kept ∙ sym (ap refuses e)))
-behind_both false u first second last answer kept e = absurd (false≢true (sym kept ∙ sym (ap refuses e)))
+behind_both : (t u : Bool) (first second : Refusal) (last answer : Option Amount) → cond t (cond u (Ok last) (Err second)) (Err first) ≡ Ok answer → last ≡ answer
+behind_both true true first second last answer e = cc
+behind_both true false first second last answer e = cc
+behind_both false u first second last answer e = cc
 
 -- what a choice of an amount or none says
-is_told : (t : Bool) (one grosze : ℕ) → cond t (Is (amount one)) Not ≡ Is (amount grosze) → (t ≡ true) × (one ≡ grosze)
-is_told true one grosze e = (refl, ap grosze_in e)
-  where
-    grosze_in : AmountFound → ℕ
-    grosze_in (Is found) = found.0
-    grosze_in Not = 0
-    grosze_in (Refused n) = 0
-is_told false one grosze e = absurd (false≢true (ap finds e))
+is_told : (t : Bool) (one grosze : ℕ) → cond t (Some (amount one)) None ≡ Some (amount grosze) → (t ≡ true) × (one ≡ grosze)
+is_told true one grosze e = let same : amount one ≡ amount grosze = cc in (refl, ap (λ found. found.0) same)
+is_told false one grosze e = cc
 
-not_told : (t : Bool) (one : ℕ) → cond t (Is (amount one)) Not ≡ Not → t ≡ false
-not_told true one e = absurd (false≢true (sym (ap finds e)))
+not_told : (t : Bool) (one : ℕ) → cond t (Some (amount one)) None ≡ None → t ≡ false
+not_told true one e = cc
 not_told false one e = refl
 
 pub answers_total : (flat of_amount total : ℕ) → AnswersTotal flat of_amount total
@@ -141,11 +94,11 @@ answers_total flat of_amount total =
     let terms = terms_of flat of_amount in
     let could = candidate terms total in
     let does = makes terms total could in
-    let behind = behind_both (is_rate of_amount) (is_order_fee flat) 907 905 (cond does (Is (amount could)) Not) in
+    let behind = behind_both (is_rate of_amount) (is_order_fee flat) Rate FlatPart (cond does (Some (amount could)) None) in
     record {
       found = λ grosze e.
-          let told = is_told does could grosze (behind (Is (amount grosze)) refl e) in
+          let told = is_told does could grosze (behind (Some (amount grosze)) e) in
           rw told.1 at told.0;
-      none = λ e. none_makes terms total (not_told does could (behind Not refl e));
+      none = λ e. none_makes terms total (not_told does could (behind None e));
       alone = λ one another first second. sym (is_candidate terms total one first) ∙ is_candidate terms total another second;
     }

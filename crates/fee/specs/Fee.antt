@@ -1,9 +1,7 @@
 -- "A new contract sets the fee as a flat part plus a rate, 0 to 10,000, in ten-thousandths." (document 02, A5)
-use Rattle.std.specs.Prelude.{◌≡◌, Bool, true, false, cond, ◌&&◌, ℕ, ◌+◌, ◌*◌, ◌-◌, ◌/◌, ◌%◌, ◌≤◌, ◌<◌, leb, ltb, eqb}
+use Rattle.std.specs.Prelude.{◌≡◌, Bool, true, cond, ◌&&◌, ℕ, ◌+◌, ◌*◌, ◌-◌, ◌/◌, ◌%◌, ◌≤◌, ◌<◌, leb, ltb, eqb, Option, Some, None}
 use Rattle.money.specs.Money.{fee, is_order_fee, WithinOrder}
 use Rattle.fee.specs.declared.Charge.{Charge}
-use Rattle.fee.specs.declared.Charging.{Charging}
-use Rattle.fee.specs.declared.Charging.TheVariants.{Of, Above}
 use Rattle.fee.specs.declared.Rate.{Rate}
 use Rattle.fee.specs.declared.Terms.{Terms}
 
@@ -41,12 +39,8 @@ abbrev pub charge_of : Terms → ℕ → Charge
 charge_of terms amount = record { fee = fee (fee_of terms amount); remainder = remainder_of terms amount }
 
 -- "906 when an order's fee exceeds 999,999,999 ..": such a fee is none.
-unfoldable pub charged_by : Terms → ℕ → Charging
-charged_by terms amount = cond (is_order_fee (fee_of terms amount)) (Of (charge_of terms amount)) Above
-
-unfoldable pub is_charged : Charging → Bool
-is_charged (Of charge) = true
-is_charged Above = false
+unfoldable pub charged_by : Terms → ℕ → Option Charge
+charged_by terms amount = cond (is_order_fee (fee_of terms amount)) (Some (charge_of terms amount)) None
 
 -- "10,000 times the rated part plus the remainder is amount times rate, with the remainder below 10,000."
 abbrev pub DivisionHolds : Type 0

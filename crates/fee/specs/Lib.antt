@@ -1,3 +1,4 @@
 pub mod Fee
 pub mod Total
+pub mod Refusal
 pub mod Inner

@@ -1,40 +1,33 @@
 // An order's fee: a flat part, and a rate in ten-thousandths of its amount; and which amount makes a total. It knows nothing of a book.
 #![tactic(auto)]
 
-mod refusals;
+pub mod refusal;
 pub mod total;
 
 ghost use Rattle.std.specs.Prelude.{◌≡◌, ◌<◌, ◌^◌};
 ghost use Rattle.money.specs.Money.{WithinOrder};
-ghost use Rattle.fee.specs.Fee.{is_rate, TermsFit, charged_by, is_charged};
+ghost use Rattle.fee.specs.Fee.{is_rate, TermsFit, charged_by};
 ghost use Rattle.fee.specs.Inner.Difference.{difference_in};
 
-use money::{Amount, Fee};
+use money::{Amount, Fee, Grosze};
 
 // A rate, in ten-thousandths.
 #[repr(C)]
-#[derive(Clone, Copy)]
+#[derive(Clone, Copy, PartialEq, Eq, Debug)]
 pub struct Rate(pub u64);
 
 // What fees are agreed on: a flat part, and a rate.
-#[derive(Clone, Copy)]
+#[derive(Clone, Copy, PartialEq, Eq, Debug)]
 pub struct Terms {
     pub flat: Fee,
     pub rate: Rate,
 }
 
 // What an order is charged: its fee, and beside it what the division leaves.
-#[derive(Clone, Copy)]
+#[derive(Clone, Copy, PartialEq, Eq, Debug)]
 pub struct Charge {
     pub fee: Fee,
     pub remainder: u64,
-}
-
-// A charge, or a fee above its cap, which is none.
-#[derive(Clone, Copy)]
-pub enum Charging {
-    Of(Charge),
-    Above,
 }
 
 impl Rate {
@@ -49,31 +42,21 @@ impl Rate {
     }
 }
 
-// What an order of an amount is charged on some terms.
-pub fn charge_on(terms: Terms, amount: Amount) -> Charging
+// What an order of an amount is charged on some terms; a fee above its cap is none.
+#[tactic(auto, using(text::proofs::Branches::branches), unfolding(crate::specs::Fee::charged_by))]
+pub fn charge_on(terms: Terms, amount: Amount) -> Option<Charge>
     requires { TermsFit terms × WithinOrder amount.0 }
     ensures { result ≡ charged_by terms amount.0 }
 {
     let product = amount.0 * terms.rate.0;
     let grosze = terms.flat.0 + product / Rate::CAP;
     if !Fee::is_order(grosze) {
-        return Charging::Above;
+        return None;
     }
-    let fee = Fee::order(grosze);
-    Charging::Of(Charge {
-        fee,
+    Some(Charge {
+        fee: Fee::order(grosze),
         remainder: product % Rate::CAP,
     })
-}
-
-// Is there a charge?
-pub fn is_charged(charging: Charging) -> bool
-    ensures { result ≡ is_charged charging }
-{
-    match charging {
-        Charging::Of(_) => true,
-        Charging::Above => false,
-    }
 }
 
 // In which bits the two sides of an order's division differ: 10,000 times the fee with the remainder, and the amount times the rate with 10,000 times the

@@ -4,52 +4,47 @@ ghost use Rattle.money.specs.Money.{WithinOrder};
 ghost use Rattle.fee.specs.Fee.{TermsFit};
 ghost use Rattle.fee.specs.Total.{makes, candidate, found_for, amount_for};
 
-use crate::{Charging, Rate, Terms, charge_on, refusals};
-use money::{Amount, Fee};
+use crate::refusal::Refusal;
+use crate::{Rate, Terms, charge_on};
+use money::{Amount, Fee, Grosze};
 
 // An order's amount and its fee are each below 2^31: from here on no total is made of them, and up to here the products below fit.
 const OUT_OF_REACH: u64 = 1 << 32;
 
-// The amount that makes a total, none, or the number of the question answered no.
-#[derive(Clone, Copy)]
-pub enum AmountFound {
-    Is(Amount),
-    Not,
-    Refused(u64),
-}
-
 // The amount that with its fee, of a flat part and a rate, makes a total.
-pub fn amount_for(flat: u64, rate: u64, total: u64) -> AmountFound
+#[tactic(auto, using(text::proofs::Branches::branches), unfolding(crate::specs::Total::amount_for))]
+pub fn amount_for(flat: u64, rate: u64, total: u64) -> Result<Option<Amount>, Refusal>
     ensures { result ≡ amount_for flat rate total }
 {
     if !Rate::is_rate(rate) {
-        return AmountFound::Refused(refusals::RATE);
+        return Err(Refusal::Rate);
     }
     if !Fee::is_order(flat) {
-        return AmountFound::Refused(refusals::FLAT_PART);
+        return Err(Refusal::FlatPart);
     }
     let flat = Fee::order(flat);
     let rate = Rate(rate);
-    find(Terms { flat, rate }, total)
+    Ok(find(Terms { flat, rate }, total))
 }
 
-// The amount that makes a total on some terms, or none.
-fn find(terms: Terms, total: u64) -> AmountFound
+// The amount that makes a total on some terms, if there is one.
+#[tactic(auto, using(text::proofs::Branches::branches, crate::proofs::Totals::out_of_reach, crate::proofs::Totals::makes_within), unfolding(crate::specs::Total::found_for))]
+fn find(terms: Terms, total: u64) -> Option<Amount>
     requires { TermsFit terms }
     ensures { result ≡ found_for terms total }
 {
-    let flat = terms.flat;
-    if !is_in_reach(flat, total) {
-        return AmountFound::Not;
+    if !is_in_reach(terms.flat, total) {
+        return None;
     }
     let grosze = candidate_for(terms, total);
     if !does_make(terms, total, grosze) {
-        return AmountFound::Not;
+        return None;
     }
-    AmountFound::Is(Amount::order(grosze))
+    Some(Amount::order(grosze))
 }
 
 // Is a total no less than the flat part, and not out of reach?
+#[tactic(auto, using(text::proofs::Branches::branches))]
 fn is_in_reach(flat: Fee, total: u64) -> bool
     ensures { result ≡ (leb flat.0 total && ltb total (2 ^ 32)) }
 {
@@ -66,6 +61,7 @@ fn candidate_for(terms: Terms, total: u64) -> u64
 }
 
 // Does an amount make a total, with a fee that an order can hold?
+#[tactic(auto, using(text::proofs::Branches::branches), unfolding(crate::specs::Total::makes, crate::specs::Fee::charged_by))]
 fn does_make(terms: Terms, total: u64, grosze: u64) -> bool
     requires { TermsFit terms }
     ensures { result ≡ makes terms total grosze }
@@ -74,10 +70,7 @@ fn does_make(terms: Terms, total: u64, grosze: u64) -> bool
         return false;
     }
     let amount = Amount::order(grosze);
-    match charge_on(terms, amount) {
-        Charging::Of(charge) => total_of(amount, charge.fee) == total,
-        Charging::Above => false,
-    }
+    charge_on(terms, amount).is_some_and(|charge| total_of(amount, charge.fee) == total)
 }
 
 // An order's amount and its fee together, in grosze of neither money. Nothing else adds the two.

@@ -4,7 +4,7 @@ use mathlib.Core.Path.{◌≡◌, refl}
 use mathlib.Core.Bool.{true, false}
 use mathlib.Core.List.{List, [], ◌∷◌, map}
 use Prim.Native.Nat.{ℕ}
-use Rattle.text.specs.Bytes.{letter, digit, letter_or_digit, letters_or_digits}
+use Rattle.text.specs.Bytes.{letter, digit, letter_or_digit}
 use Rattle.text.specs.Quoted.{bytes}
 use Rattle.money.specs.Money.{amount, fee}
 use Rattle.fee.specs.Fee.{rate}
@@ -32,7 +32,7 @@ zs1_is_read : (rows : List Row) → shipment_in head rows ≡ record {
   returned_sums = record { k = 100; o = 0 };
   rows = rows;
 }
-unfolding head shipment_in number_at stage_of ident_of identifier letter digit letter_or_digit letters_or_digits
+unfolding head shipment_in number_at stage_of ident_of identifier letter digit letter_or_digit
 zs1_is_read rows = refl
 
 -- an order of 25.50 that is Posted, with a fee of 3.81 and a remainder of 8,750

@@ -7,7 +7,7 @@ ghost use Rattle.memory.specs.Layout.{size};
 ghost use Rattle.memory.specs.Read.{rows_from};
 
 use crate::row::{amount, fee};
-use money::{Amount, Fee};
+use money::{Amount, Fee, Grosze};
 
 // The sum of the amounts of the n rows from the k-th on.
 pub fn amounts_in(memory: &[u8], k: usize, n: usize) -> Amount

@@ -13,7 +13,7 @@ use crate::row::store_state;
 use crate::{AMOUNTS, FEES, HEAD_SIZE, HEADS, REMAINDERS};
 use contents::record::Order;
 use epe::name::Name;
-use fee::{Charging, Terms, charge_on};
+use fee::{Terms, charge_on};
 use model::State;
 
 // Enters an order in row k, on the terms of its fee.
@@ -22,7 +22,7 @@ pub fn enter_order(memory: &mut [u8], k: usize, terms: Terms, order: Order)
     requires { (k < most_rows) × (size ≤ length memory.old) × Enterable terms order }
     ensures { OrderEntered terms order k memory.old memory.new }
 {
-    let Charging::Of(charge) = charge_on(terms, order.amount) else {
+    let Some(charge) = charge_on(terms, order.amount) else {
         return;
     };
     store::<4>(memory, AMOUNTS + 4 * k, order.amount.0);

@@ -11,7 +11,7 @@ use crate::number::{read, store};
 use crate::{HEAD_SIZE, HEADS};
 use fee::{Rate, Terms};
 use model::Stage;
-use money::{Amount, Fee, Money, Sum};
+use money::{Amount, Fee, Grosze, Money, Sum};
 
 // Where the length of the identifier lies, behind the identifier, which is the first field.
 pub const LENGTH: usize = 17;
@@ -123,7 +123,7 @@ pub fn has_sums_in_range(head: &[u8], money: Money) -> bool
 {
     let accepted = accepted_at(money);
     let returned = returned_at(money);
-    Sum::is_sum(money, read::<8>(head, accepted)) && Sum::is_sum(money, read::<8>(head, returned))
+    Amount::is_sum(read::<8>(head, accepted)) && Amount::is_sum(read::<8>(head, returned))
 }
 
 // The transfers accepted of a money.

@@ -9,7 +9,7 @@ ghost use Rattle.memory.specs.Heads.{name_in};
 use crate::head::{DATE, KIND, LENGTH, PAYMENT};
 use crate::number::read;
 use calendar::date::{Date, is_real};
-use epe::ident::{Ident, is_identifier, is_same};
+use epe::ident::{Ident, is_identifier};
 use epe::name::Name;
 
 // The shipment's identifier.
@@ -30,7 +30,7 @@ pub fn is_called(head: &[u8], wanted: Ident) -> bool
     requires { IsHead head.now }
     ensures { result ≡ same_ident wanted (name_in head.now).ident }
 {
-    is_same(wanted, ident(head))
+    wanted == ident(head)
 }
 
 // Is the shipment of that name?

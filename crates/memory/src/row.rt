@@ -10,7 +10,7 @@ use crate::number::read;
 use crate::state::{code_of, state_of};
 use crate::{AMOUNTS, FEES, REMAINDERS, STATES};
 use model::State;
-use money::{Amount, Fee};
+use money::{Amount, Fee, Grosze};
 
 // The amount of row k. What four bytes say is never above the cap of a sum.
 #[tactic(auto, using(crate::proofs::RowLaws::amount_in_lem), unfolding(crate::specs::Rows::row_of))]

@@ -19,7 +19,7 @@ long_is_short title six amount book = rw (long_of_six title six)
 module _ (title : List ℕ) (six : length (name_part 2 title) ≡ 6) (amount : ℕ) where
   moves_alike : (answer : Answer) → moved (Transfer (long_title title) amount) answer ≡ moved (Transfer title amount) answer
   moves_alike (Refused number) = refl
-  moves_alike Done = rw (long_means_short title six)
+  moves_alike Done = rw (long_means_short title six).1
   moves_alike (Accepted orders faulty) = refl
   moves_alike IsPaired = refl
   moves_alike (Short k o) = refl
@@ -29,4 +29,4 @@ module _ (title : List ℕ) (six : length (name_part 2 title) ≡ 6) (amount : �
 
 pub long_counts : LongCounts
 unfolding is_for
-long_counts title six amount = (λ ident. rw (long_means_short title six), moves_alike title six amount)
+long_counts title six amount = (λ ident. rw (long_means_short title six).1, moves_alike title six amount)

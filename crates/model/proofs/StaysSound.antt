@@ -16,6 +16,7 @@ use Rattle.money.specs.declared.Money.TheVariants.{K, O}
 use Rattle.fee.specs.Fee.{fee_of}
 use Rattle.fee.specs.declared.Terms.{Terms}
 use Rattle.fee.proofs.Division.{divides_alone}
+use Rattle.epe.specs.Questions.{Passed}
 use Rattle.epe.specs.Ident.{same_ident}
 use Rattle.epe.specs.Name.{name_of, name_questions, name_in_form, title_of}
 use Rattle.epe.specs.Opening.{file_questions, fixed_questions, repeated_questions, opening_questions, opening}
@@ -27,7 +28,6 @@ use Rattle.epe.specs.declared.ident.Ident.{Ident}
 use Rattle.epe.specs.declared.name.Name.{Name}
 use Rattle.epe.specs.declared.profile.Profile.{Profile}
 use Rattle.contents.specs.declared.record.Order.{Order}
-use Rattle.epe.specs.declared.verdict.Verdict.TheVariants.{Passed}
 use Rattle.contents.proofs.AcceptedAsStated.{accepted_as_stated}
 use Rattle.epe.proofs.NameLaws.{parts_in_form}
 use Rattle.epe.proofs.ProfileLaws.{terms_fit_holds}

@@ -1,11 +1,10 @@
 -- Document 01, "Shipment ZS1 and its neighbours": "Proved as one table, by one fact, over the definitions."
-use Rattle.std.specs.Prelude.{◌≡◌, List, [], ◌∷◌, ◌++◌, map, ℕ}
+use Rattle.std.specs.Prelude.{◌≡◌, List, [], ◌∷◌, ◌++◌, map, ℕ, Some, None}
 use Prim.Native.String.{String}
 use Rattle.text.specs.Quoted.{bytes}
 use Rattle.money.specs.Money.{fee}
 use Rattle.fee.specs.Fee.{rate}
 use Rattle.money.specs.Text.{order_text}
-use Rattle.money.specs.declared.AmountRead.TheVariants.{Is, Not}
 use Rattle.money.specs.declared.Money.{Money}
 use Rattle.money.specs.declared.Money.TheVariants.{K, O}
 use Rattle.epe.specs.Ident.{ident_of}
@@ -95,7 +94,7 @@ pub record Table : Type 0 where
       × (free_in K zs1 (book_at calls 17) ≡ 0) × (free_in O zs1 (book_at calls 17) ≡ 0)
   -- "9. `9999999.99` reads 999,999,999; `0.01` reads 1. 10. `1.5` is no amount."
   pub lines_9_and_10 : map (λ (text : String). order_text (bytes text)) ("9999999.99" ∷ "0.01" ∷ "1.5" ∷ [])
-      ≡ Is (record { 0 = 999_999_999 }) ∷ Is (record { 0 = 1 }) ∷ Not ∷ []
+      ≡ Some (record { 0 = 999_999_999 }) ∷ Some (record { 0 = 1 }) ∷ None ∷ []
   -- "11. Today 20201007: created on 20200808 or 20201017 passes, 20200807 or 20201018 is 103."
   pub line_11 : map (first_answer "EPEZZS1-201007-A-0")
       ("1|ZUS|EPE|1.0|ZS1|ABC123|20200808000000|20201007|A|0|3|175.50"

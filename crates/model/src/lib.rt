@@ -4,7 +4,7 @@
 use money::{Amount, Fee};
 
 // Where a shipment stands.
-#[derive(Clone, Copy)]
+#[derive(Clone, Copy, PartialEq, Eq, Debug)]
 pub enum Stage {
     Waiting,
     Paired,
@@ -12,7 +12,7 @@ pub enum Stage {
 }
 
 // The routes by which money goes back: surplus (ZWR), faulty (OPR), undelivered (ZPR) and withdrawn orders (ZZR).
-#[derive(Clone, Copy)]
+#[derive(Clone, Copy, PartialEq, Eq, Debug)]
 pub enum Route {
     Zwr,
     Opr,
@@ -21,7 +21,7 @@ pub enum Route {
 }
 
 // Where an order stands: Faulty with its fault and whether K and O wait, Undelivered with whether K waits, Withdrawn with whether K and O wait.
-#[derive(Clone, Copy)]
+#[derive(Clone, Copy, PartialEq, Eq, Debug)]
 pub enum State {
     Open,
     Posted,
@@ -32,7 +32,7 @@ pub enum State {
 }
 
 // An order's row: its amount, its fee with what the division left beside it, and where it stands.
-#[derive(Clone, Copy)]
+#[derive(Clone, Copy, PartialEq, Eq, Debug)]
 pub struct Row {
     pub amount: Amount,
     pub fee: Fee,
@@ -41,7 +41,7 @@ pub struct Row {
 }
 
 // What is done with one order.
-#[derive(Clone, Copy)]
+#[derive(Clone, Copy, PartialEq, Eq, Debug)]
 pub enum Deed {
     Post,
     Pay,

@@ -1,63 +1,71 @@
 -- An amount's text: when it is too short, when it has its point, and how much it can read.
 -- Assumes nothing.
-use mathlib.Core.Path.{◌≡◌, refl}
+use mathlib.Core.Path.{◌≡◌, refl, sym, ◌∙◌}
 use mathlib.Core.Bool.{Bool, true, false, ◌&&◌}
 use mathlib.Core.List.{List}
 use Prim.Native.Nat.{ℕ, ◌+◌, ◌-◌, ◌^◌, ◌<◌, ◌≤◌}
 use native.Mathlib.Omega.{arith}
 use lib.Dec.{eqb}
-use lib.ListN.{length, get_or}
+use lib.ListN.{length, get_or, take, drop}
 use lib.Pow.{pow-add}
-use Rattle.text.specs.Bytes.{part}
-use Rattle.text.specs.Number.{number, Below}
-use Rattle.text.specs.declared.number.Number.{Number}
-use Rattle.text.specs.declared.number.Number.TheVariants.{Of, Not}
+use lib.Seq.{drop-drop, get_or-drop}
+use native.Mathlib.Nat.{add-zero}
+use Rattle.std.specs.Prelude.{Option, Some, None, IfSome}
+use Rattle.text.specs.Number.{number}
 use Rattle.text.proofs.Branches.{cond_either}
 use Rattle.text.proofs.Digits.{number_bound}
-use Rattle.money.specs.Money.{order_cap, sum_cap, grosze_of, AtMost}
+use Rattle.money.specs.Money.{order_cap, sum_cap, grosze_of}
 use Rattle.money.specs.Text.{together, no_leading_zero, text_of, order_text, sum_text}
-use Rattle.money.specs.declared.AmountRead.{AmountRead}
-use Rattle.money.specs.declared.AmountRead.TheVariants.{Is as AmountIs, Not as NoAmount}
+use Rattle.money.specs.declared.Amount.{Amount}
 
-module _ (most : ℕ) (s : List ℕ) where
-  abbrev is_shaped : Bool
-  is_shaped = eqb (get_or s (length s - 3) 0) 0x2E && no_leading_zero (part 0 (length s - 3) s)
+abbrev is_shaped : List ℕ → Bool
+is_shaped s = eqb (get_or s (length s - 3) 0) 0x2E && no_leading_zero (take (length s - 3) s)
 
-  pub too_short : length s < 3 → NoAmount ≡ text_of most s
-  unfolding text_of together number
-  too_short h =
-      let nothing_before : length s - 3 ≡ 0 = omega arith in
-      cond_either (λ r. NoAmount ≡ r) is_shaped (together (number 1 most (part 0 (length s - 3) s)) (number 2 2 (part (length s - 2) (length s) s))) NoAmount (λ t. rw nothing_before) (λ t. refl)
+abbrev parts_read : ℕ → List ℕ → Option Amount
+parts_read most s = together (number 1 most (take (length s - 3) s)) (number 2 2 (drop (length s - 2) s))
 
-  pub not_shaped : is_shaped ≡ false → NoAmount ≡ text_of most s
+pub too_short : (most : ℕ) (s : List ℕ) → (3 ≤ length s → ⊥) → None ≡ text_of most s
+unfolding text_of together number
+too_short most s h =
+    let nothing_before : length s - 3 ≡ 0 = omega arith in
+    cond_either (λ r. None ≡ r) (is_shaped s) (parts_read most s) None (λ t. rw nothing_before) (λ t. refl)
+
+-- A text of three bytes or more, as `split_at` parts it before its last three.
+module _ (most : ℕ) (s whole behind : List ℕ) (k : ℕ) (long : 3 ≤ length s) (at : k ≡ length s - 3) (front : whole ≡ take k s) (back : behind ≡ drop k s) where
+  same_shape : (eqb (get_or behind 0 0) 0x2E && no_leading_zero whole) ≡ is_shaped s
+  same_shape = rw (back, front, at, get_or-drop (length s - 3) s 0 0, add-zero)
+
+  pub not_shaped : (eqb (get_or behind 0 0) 0x2E && no_leading_zero whole) ≡ false → None ≡ text_of most s
   unfolding text_of
-  not_shaped h = rw h
+  not_shaped h = rw (sym same_shape ∙ h)
 
-  pub shaped : is_shaped ≡ true
-      → together (number 1 most (part 0 (length s - 3) s)) (number 2 2 (part (length s - 2) (length s) s)) ≡ text_of most s
+  pub shaped : (eqb (get_or behind 0 0) 0x2E && no_leading_zero whole) ≡ true → (z g : Option ℕ)
+      → z ≡ number 1 most whole → g ≡ number 2 2 (drop 1 behind) → together z g ≡ text_of most s
   unfolding text_of
-  shaped h = rw h
+  shaped h z g zlote grosze =
+      let e : length s - 3 + 1 ≡ length s - 2 = omega arith in
+      rw (sym same_shape ∙ h, zlote, grosze, front, back, at, drop-drop, e)
 
 -- What so many digits before the point and two behind it can read at most.
-pub digits_bound : (most : ℕ) (zlote grosze : Number) → Below (10 ^ most) zlote → Below (10 ^ 2) grosze
-    → AtMost (10 ^ (most + 2) - 1) (together zlote grosze)
+pub digits_bound : (most : ℕ) (zlote grosze : Option ℕ) → IfSome zlote (λ n. n < 10 ^ most) → IfSome grosze (λ n. n < 10 ^ 2)
+    → IfSome (together zlote grosze) (λ amount. amount.0 ≤ 10 ^ (most + 2) - 1)
 unfolding together
-digits_bound most (Of zlote) (Of grosze) z g = omega (arith, pow-add 10 most 2)
-digits_bound most (Of zlote) Not z g = tt
-digits_bound most Not grosze z g = tt
+digits_bound most (Some zlote) (Some grosze) z g = omega (arith, pow-add 10 most 2)
+digits_bound most (Some zlote) None z g = tt
+digits_bound most None grosze z g = tt
 
-pub text_bound : (most : ℕ) (s : List ℕ) → AtMost (10 ^ (most + 2) - 1) (text_of most s)
+pub text_bound : (most : ℕ) (s : List ℕ) → IfSome (text_of most s) (λ amount. amount.0 ≤ 10 ^ (most + 2) - 1)
 unfolding text_of
 text_bound most s =
-    cond_either (λ r. AtMost (10 ^ (most + 2) - 1) r) (is_shaped most s) _ NoAmount
-    (λ t. digits_bound most (number 1 most (part 0 (length s - 3) s)) (number 2 2 (part (length s - 2) (length s) s))
-    (number_bound 1 most (part 0 (length s - 3) s)) (number_bound 2 2 (part (length s - 2) (length s) s)))
+    cond_either (λ r. IfSome r (λ amount. amount.0 ≤ 10 ^ (most + 2) - 1)) (is_shaped s) _ None
+    (λ t. digits_bound most (number 1 most (take (length s - 3) s)) (number 2 2 (drop (length s - 2) s))
+    (number_bound 1 most (take (length s - 3) s)) (number_bound 2 2 (drop (length s - 2) s)))
     (λ t. tt)
 
-pub grosze_bound : (cap : ℕ) (r : AmountRead) → AtMost cap r → grosze_of r ≤ cap
+pub grosze_bound : (cap : ℕ) (r : Option Amount) → IfSome r (λ amount. amount.0 ≤ cap) → grosze_of r ≤ cap
 unfolding grosze_of
-grosze_bound cap (AmountIs amount) h = h
-grosze_bound cap NoAmount h = omega arith
+grosze_bound cap (Some amount) h = h
+grosze_bound cap None h = omega arith
 
 -- "An order's amount is 1 to 999,999,999", and a sum "reads at most 9,999,999,999,999".
 pub order_text_bound : (s : List ℕ) → grosze_of (order_text s) ≤ order_cap

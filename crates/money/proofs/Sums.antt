@@ -6,13 +6,13 @@ use Prim.Native.Nat.{ℕ}
 use native.Mathlib.Omega.{arith}
 use borrow.Author.Tests.{leb-true}
 use lib.Dec.{leb}
+use Rattle.std.specs.Prelude.{Option, Some, None}
 use Rattle.text.proofs.Branches.{either_way, and_right}
 use Rattle.money.specs.Money.{sum_cap, is_transfer, WithinSum, sum_of, grosze_in, money_of_sum, as_transfer}
 use Rattle.money.specs.declared.Money.{Money}
 use Rattle.money.specs.declared.Money.TheVariants.{K, O}
 use Rattle.money.specs.declared.Sum.{Sum}
 use Rattle.money.specs.declared.Sum.TheVariants.{Amounts, Fees}
-use Rattle.money.specs.declared.SumRead.TheVariants.{Is as SumIs, Not as NoSum}
 
 pub grosze_of_sum : (money : Money) (n : ℕ) → grosze_in (sum_of money n) ≡ n
 unfolding sum_of grosze_in
@@ -38,14 +38,14 @@ money_is money n is = ap money_of_sum is ∙ money_of_sum_lem money n
 
 -- a transfer, or none, as code was given it
 module _ (money : Money) (n : ℕ) where
-  pub no_transfer : NoSum ≡ as_transfer money n → is_transfer n ≡ false
+  pub no_transfer : ◌≡◌ {A = Option Sum} None (as_transfer money n) → is_transfer n ≡ false
   unfolding as_transfer
   no_transfer is =
       either_way (is_transfer n)
       (λ one. let other = rw one at is in let never : ◌≡◌ {A = ℕ} 0 1 = cc in absurd (omega arith))
       (λ none. none)
 
-  pub a_transfer : {sum : Sum} → SumIs sum ≡ as_transfer money n → (is_transfer n ≡ true) × (sum ≡ sum_of money n)
+  pub a_transfer : {sum : Sum} → Some sum ≡ as_transfer money n → (is_transfer n ≡ true) × (sum ≡ sum_of money n)
   unfolding as_transfer
   a_transfer is =
       either_way (is_transfer n)

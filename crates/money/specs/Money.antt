@@ -1,16 +1,12 @@
 -- "Money is whole grosze. Amounts (K) and fees (O) are two moneys and never add."
-use Rattle.std.specs.Prelude.{Bool, true, false, cond, ℕ, ◌≤◌, leb}
+use Rattle.std.specs.Prelude.{Bool, cond, ℕ, ◌≤◌, leb, Option, Some, None}
 use Rattle.text.specs.Bytes.{between}
 use Rattle.money.specs.declared.Amount.{Amount}
-use Rattle.money.specs.declared.AmountRead.{AmountRead}
-use Rattle.money.specs.declared.AmountRead.TheVariants.{Is as AmountIs, Not as NoAmount}
 use Rattle.money.specs.declared.Fee.{Fee}
 use Rattle.money.specs.declared.Money.{Money}
 use Rattle.money.specs.declared.Money.TheVariants.{K, O}
 use Rattle.money.specs.declared.Sum.{Sum}
 use Rattle.money.specs.declared.Sum.TheVariants.{Amounts, Fees}
-use Rattle.money.specs.declared.SumRead.{SumRead}
-use Rattle.money.specs.declared.SumRead.TheVariants.{Is as SumIs, Not as NoSum}
 
 -- Grosze as either money.
 abbrev pub amount : ℕ → Amount
@@ -29,6 +25,10 @@ sum_cap = 9_999_999_999_999
 -- What a total of the balance sheet can come to: "no total above 999,999,999,999,999".
 abbrev pub total_cap : ℕ
 total_cap = 999_999_999_999_999
+
+-- What an order holds is from the least of a money to its cap.
+abbrev pub is_order : ℕ → ℕ → Bool
+is_order least grosze = between least order_cap grosze
 
 -- "An order's amount is 1 to 999,999,999." A fee is 0 to 999,999,999.
 abbrev pub is_order_amount : ℕ → Bool
@@ -71,19 +71,10 @@ money_of_sum (Amounts amount) = K
 money_of_sum (Fees fee) = O
 
 -- A transfer of a money, or none.
-unfoldable pub as_transfer : Money → ℕ → SumRead
-as_transfer money grosze = cond (is_transfer grosze) (SumIs (sum_of money grosze)) NoSum
-
-unfoldable pub is_amount : AmountRead → Bool
-is_amount (AmountIs amount) = true
-is_amount NoAmount = false
+unfoldable pub as_transfer : Money → ℕ → Option Sum
+as_transfer money grosze = cond (is_transfer grosze) (Some (sum_of money grosze)) None
 
 -- The grosze of an amount, 0 where there is none.
-unfoldable pub grosze_of : AmountRead → ℕ
-grosze_of (AmountIs amount) = amount.0
-grosze_of NoAmount = 0
-
--- If it is an amount at all, it is at most the cap.
-abbrev pub AtMost : ℕ → AmountRead → Type 0
-AtMost cap (AmountIs amount) = amount.0 ≤ cap
-AtMost cap NoAmount = Unit {0}
+unfoldable pub grosze_of : Option Amount → ℕ
+grosze_of (Some amount) = amount.0
+grosze_of None = 0

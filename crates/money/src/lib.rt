@@ -2,18 +2,16 @@
 // The texts of an order's amount and of a sum.
 #![tactic(auto)]
 
-ghost use Rattle.std.specs.Prelude.{◌≡◌, ◌&&◌, ◌+◌, ◌-◌, ◌^◌, ◌≤◌, eqb};
-ghost use Rattle.text.specs.Number.{Below};
-ghost use Rattle.money.specs.Money.{amount, fee, order_cap, sum_cap, is_order_amount, is_order_fee, is_sum, is_transfer, is_total};
-ghost use Rattle.money.specs.Money.{WithinOrder, WithinSum, WithinTotal, sum_of, grosze_in, money_of_sum, as_transfer, is_amount, grosze_of, AtMost};
-ghost use Rattle.money.specs.Text.{together, no_leading_zero, text_of, order_text, sum_text};
+ghost use Rattle.std.specs.Prelude.{◌≡◌, ℕ, ◌&&◌, ◌+◌, ◌-◌, ◌^◌, ◌≤◌, eqb, IfSome};
+ghost use Rattle.money.specs.Money.{order_cap, sum_cap, is_sum, sum_of, grosze_in, money_of_sum, as_transfer};
+ghost use Rattle.money.specs.Money.{WithinOrder, WithinSum, WithinTotal, is_order, is_transfer, is_total};
+ghost use Rattle.money.specs.Text.{no_leading_zero, text_of, order_text, sum_text};
 
-use text::bytes::{byte_at, slice};
+use text::bytes::{byte_at, rest};
 use text::number;
-use text::number::{Number, is_between};
 
 // The two moneys, by the letters of document 01: amounts and fees.
-#[derive(Clone, Copy)]
+#[derive(Clone, Copy, PartialEq, Eq, Debug)]
 pub enum Money {
     K,
     O,
@@ -21,33 +19,138 @@ pub enum Money {
 
 // Grosze of amounts, K.
 #[repr(C)]
-#[derive(Clone, Copy)]
+#[derive(Clone, Copy, PartialEq, Eq, Debug)]
 pub struct Amount(pub u64);
 
 // Grosze of fees, O.
 #[repr(C)]
-#[derive(Clone, Copy)]
+#[derive(Clone, Copy, PartialEq, Eq, Debug)]
 pub struct Fee(pub u64);
 
-// An amount, or a refusal.
-#[derive(Clone, Copy)]
-pub enum AmountRead {
-    Is(Amount),
-    Not,
-}
-
 // A sum of one money: code that serves both keeps them apart by it.
-#[derive(Clone, Copy)]
+#[derive(Clone, Copy, PartialEq, Eq, Debug)]
 pub enum Sum {
     Amounts(Amount),
     Fees(Fee),
 }
 
-// A sum, or a refusal.
-#[derive(Clone, Copy)]
-pub enum SumRead {
-    Is(Sum),
-    Not,
+// What both moneys have, each in its own type.
+pub trait Grosze: Copy {
+    ghost of: { ℕ → Self };
+
+    ghost worth: { Self → ℕ };
+
+    ghost LEAST: { ℕ };
+
+    // The least that an order holds.
+    const LEAST: u64;
+
+    // So many grosze.
+    fn from_grosze(grosze: u64) -> Self
+        ensures { result ≡ of grosze };
+
+    // Its grosze.
+    fn grosze(self) -> u64
+        ensures { result ≡ worth self };
+
+    // The grosze as an order holds them, within the cap.
+    fn order(grosze: u64) -> Self
+        requires { WithinOrder grosze }
+        ensures { result ≡ of grosze }
+    {
+        Self::from_grosze(grosze)
+    }
+
+    // The grosze as a sum, within its cap.
+    fn sum(grosze: u64) -> Self
+        requires { WithinSum grosze }
+        ensures { result ≡ of grosze }
+    {
+        Self::from_grosze(grosze)
+    }
+
+    // The grosze as a total, within its cap.
+    fn total(grosze: u64) -> Self
+        requires { WithinTotal grosze }
+        ensures { result ≡ of grosze }
+    {
+        Self::from_grosze(grosze)
+    }
+
+    // Can an order hold so many grosze?
+    fn is_order(grosze: u64) -> bool
+        ensures { result ≡ is_order LEAST grosze }
+    {
+        (Self::LEAST..=Amount::ORDER_CAP).contains(&grosze)
+    }
+
+    // Are the grosze a sum?
+    fn is_sum(grosze: u64) -> bool
+        ensures { result ≡ is_sum grosze }
+    {
+        grosze <= Amount::SUM_CAP
+    }
+
+    // Are the grosze a transfer?
+    fn is_transfer(grosze: u64) -> bool
+        ensures { result ≡ is_transfer grosze }
+    {
+        (1..=Amount::SUM_CAP).contains(&grosze)
+    }
+
+    // Are the grosze a total?
+    fn is_total(grosze: u64) -> bool
+        ensures { result ≡ is_total grosze }
+    {
+        grosze <= Amount::TOTAL_CAP
+    }
+
+    // The grosze less others, none where the others are more.
+    fn less(self, other: Self) -> Self
+        ensures { result ≡ of (worth self - worth other) }
+    {
+        Self::from_grosze(self.grosze().saturating_sub(other.grosze()))
+    }
+}
+
+impl Grosze for Amount {
+    ghost use Rattle.money.specs.Money.{amount};
+
+    ghost of = { amount };
+
+    ghost worth = { λ amount. amount.0 };
+
+    ghost LEAST = { 1 };
+
+    const LEAST: u64 = 1;
+
+    fn from_grosze(grosze: u64) -> Amount {
+        Amount(grosze)
+    }
+
+    fn grosze(self) -> u64 {
+        self.0
+    }
+}
+
+impl Grosze for Fee {
+    ghost use Rattle.money.specs.Money.{fee};
+
+    ghost of = { fee };
+
+    ghost worth = { λ fee. fee.0 };
+
+    ghost LEAST = { 0 };
+
+    const LEAST: u64 = 0;
+
+    fn from_grosze(grosze: u64) -> Fee {
+        Fee(grosze)
+    }
+
+    fn grosze(self) -> u64 {
+        self.0
+    }
 }
 
 impl Amount {
@@ -60,158 +163,36 @@ impl Amount {
     // The most that a total of the balance sheet comes to.
     pub const TOTAL_CAP: u64 = 999_999_999_999_999;
 
-    // The grosze as an order's amount, within its cap.
-    pub fn order(grosze: u64) -> Amount
-        requires { WithinOrder grosze }
-        ensures { result ≡ amount grosze }
-    {
-        Amount(grosze)
-    }
-
-    // The grosze as a sum of amounts, within its cap.
-    pub fn sum(grosze: u64) -> Amount
-        requires { WithinSum grosze }
-        ensures { result ≡ amount grosze }
-    {
-        Amount(grosze)
-    }
-
-    // The grosze as a total of amounts, within its cap.
-    pub fn total(grosze: u64) -> Amount
-        requires { WithinTotal grosze }
-        ensures { result ≡ amount grosze }
-    {
-        Amount(grosze)
-    }
-
-    // Are the grosze an order's amount?
-    pub fn is_order(grosze: u64) -> bool
-        ensures { result ≡ is_order_amount grosze }
-    {
-        is_between(1, Self::ORDER_CAP, grosze)
-    }
-
-    // Are the grosze a sum of amounts?
-    pub fn is_sum(grosze: u64) -> bool
-        ensures { result ≡ is_sum grosze }
-    {
-        grosze <= Self::SUM_CAP
-    }
-
-    // Are the grosze a transfer of amounts?
-    pub fn is_transfer(grosze: u64) -> bool
-        ensures { result ≡ is_transfer grosze }
-    {
-        is_between(1, Self::SUM_CAP, grosze)
-    }
-
-    // Are the grosze a total of amounts?
-    pub fn is_total(grosze: u64) -> bool
-        ensures { result ≡ is_total grosze }
-    {
-        grosze <= Self::TOTAL_CAP
-    }
-
-    // The amount less another, nothing where the other is more.
-    pub fn less(self, other: Amount) -> Amount
-        ensures { result ≡ amount (self.0 - other.0) }
-    {
-        if self.0 <= other.0 {
-            return Amount(0);
-        }
-        Amount(self.0 - other.0)
-    }
-
     // What a text says as an order's amount.
-    pub fn read_order(text: &[u8]) -> AmountRead
+    pub fn read_order(text: &[u8]) -> Option<Amount>
         ensures value { result ≡ order_text text.now }
-        ensures at_most { AtMost order_cap result }
+        ensures at_most { IfSome result (λ amount. amount.0 ≤ order_cap) }
     {
         read(text, 7)
     }
 
     // What a text says as a sum.
-    pub fn read_sum(text: &[u8]) -> AmountRead
+    pub fn read_sum(text: &[u8]) -> Option<Amount>
         ensures value { result ≡ sum_text text.now }
-        ensures at_most { AtMost sum_cap result }
+        ensures at_most { IfSome result (λ amount. amount.0 ≤ sum_cap) }
     {
         read(text, 11)
     }
 }
 
+// A fee has the caps of an amount.
+// Kept: 2d: "Both caps belong to the money": each of the two types has them as its own associated constants.
 impl Fee {
-    // A fee has the caps of an amount.
     pub const ORDER_CAP: u64 = Amount::ORDER_CAP;
 
     pub const SUM_CAP: u64 = Amount::SUM_CAP;
 
     pub const TOTAL_CAP: u64 = Amount::TOTAL_CAP;
-
-    // The grosze as an order's fee, within its cap.
-    pub fn order(grosze: u64) -> Fee
-        requires { WithinOrder grosze }
-        ensures { result ≡ fee grosze }
-    {
-        Fee(grosze)
-    }
-
-    // The grosze as a sum of fees, within its cap.
-    pub fn sum(grosze: u64) -> Fee
-        requires { WithinSum grosze }
-        ensures { result ≡ fee grosze }
-    {
-        Fee(grosze)
-    }
-
-    // The grosze as a total of fees, within its cap.
-    pub fn total(grosze: u64) -> Fee
-        requires { WithinTotal grosze }
-        ensures { result ≡ fee grosze }
-    {
-        Fee(grosze)
-    }
-
-    // Are the grosze an order's fee?
-    pub fn is_order(grosze: u64) -> bool
-        ensures { result ≡ is_order_fee grosze }
-    {
-        grosze <= Self::ORDER_CAP
-    }
-
-    // Are the grosze a sum of fees?
-    pub fn is_sum(grosze: u64) -> bool
-        ensures { result ≡ is_sum grosze }
-    {
-        grosze <= Self::SUM_CAP
-    }
-
-    // Are the grosze a transfer of fees?
-    pub fn is_transfer(grosze: u64) -> bool
-        ensures { result ≡ is_transfer grosze }
-    {
-        is_between(1, Self::SUM_CAP, grosze)
-    }
-
-    // Are the grosze a total of fees?
-    pub fn is_total(grosze: u64) -> bool
-        ensures { result ≡ is_total grosze }
-    {
-        grosze <= Self::TOTAL_CAP
-    }
-
-    // The fee less another, nothing where the other is more.
-    pub fn less(self, other: Fee) -> Fee
-        ensures { result ≡ fee (self.0 - other.0) }
-    {
-        if self.0 <= other.0 {
-            return Fee(0);
-        }
-        Fee(self.0 - other.0)
-    }
 }
 
 impl Sum {
     // The grosze as a sum of a money, within its cap.
+    #[tactic(auto, unfolding(crate::specs::Money::sum_of))]
     pub fn of(money: Money, grosze: u64) -> Sum
         requires { WithinSum grosze }
         ensures { result ≡ sum_of money grosze }
@@ -222,27 +203,19 @@ impl Sum {
         }
     }
 
-    // Are the grosze a sum of a money?
-    pub fn is_sum(money: Money, grosze: u64) -> bool
-        ensures { result ≡ is_sum grosze }
-    {
-        match money {
-            Money::K => Amount::is_sum(grosze),
-            Money::O => Fee::is_sum(grosze),
-        }
-    }
-
-    // The grosze as a transfer of a money, or a refusal.
-    pub fn of_transfer(money: Money, grosze: u64) -> SumRead
+    // The grosze as a transfer of a money, if they are one.
+    #[tactic(auto, using(text::proofs::Branches::branches), unfolding(crate::specs::Money::as_transfer))]
+    pub fn of_transfer(money: Money, grosze: u64) -> Option<Sum>
         ensures { result ≡ as_transfer money grosze }
     {
-        if !is_transfer(money, grosze) {
-            return SumRead::Not;
+        if !Amount::is_transfer(grosze) {
+            return None;
         }
-        SumRead::Is(Self::of(money, grosze))
+        Some(Self::of(money, grosze))
     }
 
     // Its grosze.
+    #[tactic(auto, unfolding(crate::specs::Money::grosze_in))]
     pub fn grosze(self) -> u64
         ensures { result ≡ grosze_in self }
     {
@@ -253,6 +226,7 @@ impl Sum {
     }
 
     // Its money.
+    #[tactic(auto, unfolding(crate::specs::Money::money_of_sum))]
     pub fn money(self) -> Money
         ensures { result ≡ money_of_sum self }
     {
@@ -263,74 +237,25 @@ impl Sum {
     }
 }
 
-// Are the grosze a transfer of a money?
-fn is_transfer(money: Money, grosze: u64) -> bool
-    ensures { result ≡ is_transfer grosze }
-{
-    match money {
-        Money::K => Amount::is_transfer(grosze),
-        Money::O => Fee::is_transfer(grosze),
-    }
-}
-
-// Is there an amount?
-pub fn is_amount(read: AmountRead) -> bool
-    ensures { result ≡ is_amount read }
-{
-    match read {
-        AmountRead::Is(_) => true,
-        AmountRead::Not => false,
-    }
-}
-
-// The grosze of an amount, 0 where there is none.
-pub fn grosze_of(read: AmountRead) -> u64
-    ensures { result ≡ grosze_of read }
-{
-    match read {
-        AmountRead::Is(amount) => amount.0,
-        AmountRead::Not => 0,
-    }
-}
-
 // What a text says as an amount, with at most so many digits before the point.
-fn read(text: &[u8], most: usize) -> AmountRead
+fn read(text: &[u8], most: usize) -> Option<Amount>
     requires { most ≤ 11 }
     ensures value { result ≡ text_of most text.now }
-    ensures at_most { AtMost (10 ^ (most + 2) - 1) result }
+    ensures at_most { IfSome result (λ amount. amount.0 ≤ 10 ^ (most + 2) - 1) }
 {
-    let end = text.len();
-    if end < 3 {
-        return AmountRead::Not;
+    let (whole, behind) = text.split_at(text.len().checked_sub(3)?);
+    if !is_shaped(behind[0], whole) {
+        return None;
     }
-    let whole = slice(text, 0, end - 3);
-    if !is_shaped(byte_at(text, end - 3), whole) {
-        return AmountRead::Not;
-    }
-    let zlote = number::read(whole, 1, most);
-    let grosze = number::read(slice(text, end - 2, end), 2, 2);
-    put_together(zlote, grosze)
+    let zlote = number::read(whole, 1, most)?;
+    let grosze = number::read(rest(behind, 1), 2, 2)?;
+    Some(Amount(zlote * 100 + grosze))
 }
 
 // Is it a point, and the digits before it without a leading zero?
+#[tactic(auto, using(text::proofs::Branches::branches))]
 fn is_shaped(point: u8, zlote: &[u8]) -> bool
     ensures { result ≡ (eqb point 0x2E && no_leading_zero zlote.now) }
 {
     point == b'.' && (zlote.len() == 1 || byte_at(zlote, 0) != b'0')
-}
-
-// Zlote and grosze together.
-fn put_together(zlote: Number, grosze: Number) -> AmountRead
-    requires zlote_below { Below (10 ^ 11) zlote }
-    requires grosze_below { Below (10 ^ 2) grosze }
-    ensures { result ≡ together zlote grosze }
-{
-    let Number::Of(whole) = zlote else {
-        return AmountRead::Not;
-    };
-    let Number::Of(rest) = grosze else {
-        return AmountRead::Not;
-    };
-    let sum = whole * 100 + rest;
-    AmountRead::Is(Amount(sum))
 }

@@ -5,7 +5,7 @@ use mathlib.Core.List.{List, [], ◌∷◌, map}
 use mathlib.Core.Option.{Option, some, none}
 use Prim.Native.Nat.{ℕ}
 use lib.ListN.{replicate}
-use Rattle.text.specs.Bytes.{digit, letter, letter_or_digit, letters_or_digits}
+use Rattle.text.specs.Bytes.{digit, letter, letter_or_digit}
 use Rattle.text.specs.Quoted.{bytes}
 use Rattle.text.specs.Utf8Parts.{parts_joined}
 use Rattle.calendar.specs.Calendar.{real, leap, month_length}
@@ -38,11 +38,11 @@ refused = refl
 
 -- What both answer, into an output of zeros.
 rkf_into : List ℕ → ℕ → List ℕ → ℕ → ℕ → Wrote
-unfolding rkf_written written_after asked fits_rkf rkf rkf_lines parts_joined digits places_within is_moment identifier letters_or_digits letter_or_digit letter digit real leap month_length clock_time
+unfolding rkf_written written_after asked fits_rkf rkf rkf_lines parts_joined digits places_within is_moment identifier letter_or_digit letter digit real leap month_length clock_time
 rkf_into own created source refusal room = rkf_written own created source refusal (replicate room 0)
 
 ope_into : Option Book → Ident → List ℕ → ℕ → List ℕ → ℕ → Wrote
-unfolding stepped zs1 ident_of ope_written ope_of ope_on written_after asked fits_ope faulty_from are_coded ope ope_lines ope_records parts_joined digits places_within is_moment identifier letters_or_digits letter_or_digit letter digit real leap month_length clock_time
+unfolding stepped zs1 ident_of ope_written ope_of ope_on written_after asked fits_ope faulty_from are_coded ope ope_lines ope_records parts_joined digits places_within is_moment identifier letter_or_digit letter digit real leap month_length clock_time
 ope_into book ident own created codes room = ope_written book ident own created codes (replicate room 0)
 
 -- OPE of ZS1, whose order 2 has fault 1: just taken in, and at the end, when OPR has given both moneys of that order back. 64 bytes, and a byte behind.

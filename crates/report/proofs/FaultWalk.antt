@@ -76,3 +76,6 @@ finding_done {memory} {codes} {k} {n} {found} {done} so_far end =
     let far = so_far.far in
     let none : n - done ≡ 0 = omega arith in
     rw none at so_far.rest
+
+-- by which faulty orders are counted
+pub ruleset finding = (finding_begun, finding_on, finding_done)

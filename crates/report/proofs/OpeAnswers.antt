@@ -83,3 +83,9 @@ module _ (m : List ℕ) (ident : Ident) (own : List ℕ) (created : ℕ) (codes 
       → wrote ≡ ope_written (read_book m) ident own created codes output
   unfolding read_book ope_written
   ope_at e is = let found = found_at ident m e in is ∙ rw (found.0, found.1)
+
+-- by which the report on some rows answers
+pub ruleset on_rows = (ope_fits, ope_found, ope_measured, ope_own)
+
+-- and by where the shipment is found
+pub ruleset on_places = (ope_unsound, ope_unknown, ope_at)

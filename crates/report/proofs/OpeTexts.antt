@@ -3,7 +3,7 @@
 use mathlib.Core.Path.{◌≡◌, refl, ◌∙◌, ap}
 use mathlib.Core.Bool.{Bool, true, false, ◌&&◌}
 use mathlib.Core.List.{List, [], ◌∷◌, ◌++◌}
-use Prim.Native.Nat.{ℕ, suc, ◌+◌, ◌≤◌}
+use Prim.Native.Nat.{ℕ, suc, ◌+◌}
 use native.Mathlib.Numerals.{add-one}
 use native.Mathlib.Omega.{arith}
 use lib.ListN.{length, length-append}
@@ -14,9 +14,7 @@ use Rattle.model.specs.declared.State.{State}
 use Rattle.model.specs.declared.State.TheVariants.{Open, Posted, Paid, Faulty, Undelivered, Withdrawn}
 use Rattle.write.specs.Files.{line}
 use Rattle.write.specs.Spelled.{places_of, spelled}
-use Rattle.write.specs.Written.{put_at}
 use Rattle.write.proofs.Spelling.{digits_long}
-use Rattle.write.proofs.Putting.{Left, first_put}
 use Rattle.report.specs.Lines.{record_of}
 use Rattle.report.specs.Ope.{FaultyOrder, before_faulty, faulty_from, code_for, ope_records, ope_lines, ope, are_coded}
 use Rattle.report.specs.Inner.Pieces.{start_text, opening_text, behind_header}
@@ -100,21 +98,6 @@ found_all codes found number (row ∷ rows) =
 pub found_rows : (codes : List ℕ) (rows : List Row) → FoundAll codes (record { count = 0; length = 0; coded = true }) (faulty_from 1 rows)
     (found_in codes (record { count = 0; length = 0; coded = true }) 1 rows)
 found_rows codes rows = found_all codes (record { count = 0; length = 0; coded = true }) 1 rows
-
--- the report put together: its opening fits where it does, and what is left to put behind that
-module _ (own : List ℕ) (created : ℕ) (source : List ℕ) (count : ℕ) (records output : List ℕ)
-    (fits : length (ope_text own created source count records) ≤ length output) where
-  abbrev opening : List ℕ
-  opening = opening_text (start_text (bytes "OPE")) own created source
-
-  pub ope_opening_fits : length opening ≤ length output
-  unfolding ope_text
-  ope_opening_fits = let l = length-append opening (spelled count ++ records) in omega arith
-
-  pub ope_left : {at : ℕ} {now : List ℕ} → at ≡ length opening → now ≡ put_at 0 opening output
-      → Left 0 (ope_text own created source count records) output at (spelled count ++ records) now
-  unfolding ope_text
-  ope_left is_at is_now = first_put opening (spelled count ++ records) output fits is_at is_now
 
 -- how long it is
 pub ope_long : (own : List ℕ) (created : ℕ) (source : List ℕ) (count : ℕ) (records : List ℕ)

@@ -1,6 +1,6 @@
 -- An order's record put behind the others, if it has one.
 -- Assumes nothing.
-use mathlib.Core.Path.{◌≡◌, sym, ◌∙◌, ap}
+use mathlib.Core.Path.{◌≡◌, refl, sym, ap}
 use mathlib.Core.Bool.{Bool}
 use mathlib.Core.List.{List, [], ◌∷◌, ◌++◌, append-nil}
 use Prim.Native.Nat.{ℕ, suc, ◌+◌, ◌-◌, ◌≤◌, ◌<◌}
@@ -12,53 +12,37 @@ use Rattle.memory.specs.Layout.{row_bytes}
 use Rattle.memory.specs.Rows.{row_of}
 use Rattle.memory.specs.Read.{rows_from}
 use Rattle.write.specs.Files.{line}
-use Rattle.write.specs.Written.{put_at}
-use Rattle.write.proofs.Putting.{Left, all_left, piece_fits, piece_put, put_none}
+use Rattle.write.specs.Writer.{HasRoom, Writes}
+use Rattle.write.specs.declared.Writer.{Writer}
+use Rattle.write.proofs.Pieces.{room_first, writes_none, Left, all_left, left_behind, none_left}
 use Rattle.report.specs.Ope.{FaultyOrder, before_faulty, faulty_from, code_for, ope_records}
 use Rattle.report.specs.Lines.{record_of}
 use Rattle.report.specs.Inner.Pieces.{behind_header, record_text}
-use Rattle.report.specs.Inner.Faults.{PutOrder}
-use Rattle.report.specs.declared.ope.Put.{Put}
+use Rattle.report.specs.Inner.Faults.{record_in, records_in}
 use Rattle.report.proofs.Texts.{record_text_lem}
 
 -- no record, by a state that is none of a faulty order
-module _ (codes : List ℕ) (number : ℕ) {state : State} (put : Put) (output : List ℕ) where
-  pub order_passed : (other : State) → before_faulty number other [] ≡ [] → state ≡ other → PutOrder codes number state put output put output
-  unfolding ope_records behind_header
-  order_passed other none is =
-      let orders : before_faulty number state [] ≡ [] = ap (λ (s : State). before_faulty number s []) is ∙ none in
-      let text : behind_header (ope_records codes put.running (before_faulty number state [])) ≡ [] =
-      ap (λ (all : List FaultyOrder). behind_header (ope_records codes put.running all)) orders in
-      let long = ap (λ (s : List ℕ). length s) text in
-      let few = ap (λ (all : List FaultyOrder). length all) orders in
-      record {
-        text = sym (put_none put.at output) ∙ ap (λ (s : List ℕ). put_at put.at s output) (sym text);
-        place = omega arith;
-        next = omega arith;
-      }
+none_faulty : (number : ℕ) (state : State) → ((fault : ℕ) (k o : Bool) → state ≡ Faulty fault k o → ⊥) → before_faulty number state [] ≡ []
+none_faulty number Open other = refl
+none_faulty number Posted other = refl
+none_faulty number Paid other = refl
+none_faulty number (Faulty fault k o) other = absurd (other fault k o refl)
+none_faulty number (Undelivered k) other = refl
+none_faulty number (Withdrawn k o) other = refl
+
+pub none_put : (codes : List ℕ) (running number : ℕ) {state : State} {w : Writer} → ((fault : ℕ) (k o : Bool) → state ≡ Faulty fault k o → ⊥)
+    → HasRoom (record_in codes running number state) w
+    → Writes (record_in codes running number state) w w × (running ≡ running + length (before_faulty number state []))
+unfolding ope_records behind_header
+none_put codes running number {state} other room =
+    let none = none_faulty number state other in
+    rw none (writes_none (rw none at room), omega arith)
 
 -- a faulty order's record
-module _ (codes : List ℕ) (number fault : ℕ) {k o : Bool} {state : State} (is : state ≡ Faulty fault k o) (put : Put) (output : List ℕ) where
-  one_record : behind_header (ope_records codes put.running (before_faulty number state [])) ≡ record_text put.running number (code_for codes fault)
-  unfolding ope_records
-  one_record =
-      ap (λ (s : State). behind_header (ope_records codes put.running (before_faulty number s []))) is ∙ record_text_lem put.running number (code_for codes fault)
-
-  pub record_fits : (code : ℕ) → code ≡ code_for codes fault
-      → put.at + length (behind_header (ope_records codes put.running (before_faulty number state []))) ≤ length output
-      → put.at + length (record_text put.running number code) ≤ length output
-  record_fits code is_code fits = rw is_code (rw one_record at fits)
-
-  pub record_put : (code : ℕ) → code ≡ code_for codes fault → {at : ℕ} {output' : List ℕ} → at ≡ put.at + length (record_text put.running number code)
-      → output' ≡ put_at put.at (record_text put.running number code) output
-      → PutOrder codes number state put output (record { at = at; running = put.running + 1 }) output'
-  record_put code is_code is_at is_output =
-      let text = one_record ∙ ap (λ (n : ℕ). record_text put.running number n) (sym is_code) in
-      record {
-        text = is_output ∙ ap (λ (s : List ℕ). put_at put.at s output) (sym text);
-        place = is_at ∙ ap (λ (s : List ℕ). put.at + length s) (sym text);
-        next = ap (λ (s : State). put.running + length (before_faulty number s [])) (sym is);
-      }
+pub one_record : (codes : List ℕ) (running number fault : ℕ) {k o : Bool} {state : State} → state ≡ Faulty fault k o
+    → record_in codes running number state ≡ record_text running number (code_for codes fault)
+unfolding ope_records
+one_record codes running number fault is = rw is (record_text_lem running number (code_for codes fault))
 
 -- an order's record before those of the orders behind it
 order_before : (codes : List ℕ) (running number : ℕ) (more : List FaultyOrder) (state : State)
@@ -84,51 +68,50 @@ few_orders number (Undelivered k) = omega arith
 few_orders number (Withdrawn k o) = omega arith
 
 -- A pass over rows that puts the records: those of the rows that are left make the whole.
-pub record Recording (output memory codes : List ℕ) (from k n : ℕ) (put : Put) (now : List ℕ) (done : ℕ) : Type 0 where
-  pub far : done ≤ n
-  pub few : put.running ≤ done + 1
-  pub left : Left from (behind_header (ope_records codes 1 (faulty_from 1 (rows_from memory k n)))) output put.at
-      (behind_header (ope_records codes put.running (faulty_from (done + 1) (rows_from memory (k + done) (n - done))))) now
+pub record Recording (start : Writer) (memory codes : List ℕ) (k n running : ℕ) (now : Writer) (done : ℕ) : Type 0 where
+  pub few : running ≤ done + 1
+  pub left : Left (records_in codes (rows_from memory k n)) start
+      (behind_header (ope_records codes running (faulty_from (done + 1) (rows_from memory (k + done) (n - done))))) now
 
-pub recording_begun : (output memory codes : List ℕ) (from k n : ℕ)
-    → from + length (behind_header (ope_records codes 1 (faulty_from 1 (rows_from memory k n)))) ≤ length output
-    → Recording output memory codes from k n (record { at = from; running = 1 }) output 0
-recording_begun output memory codes from k n fits =
+pub recording_begun : {start : Writer} {memory codes : List ℕ} {k n : ℕ} → HasRoom (records_in codes (rows_from memory k n)) start
+    → Recording start memory codes k n 1 start 0
+recording_begun {k = k} {n = n} room =
     let here : k + 0 ≡ k = omega arith in
     let all : n - 0 ≡ n = omega arith in
-    record { far = omega arith; few = omega arith; left = rw (here, all) (all_left from _ output fits) }
+    record { few = omega arith; left = rw (here, all) (all_left room) }
 
-module _ {output memory codes : List ℕ} {from k n : ℕ} {put : Put} {now : List ℕ} {done : ℕ} (so_far : Recording output memory codes from k n put now done) (more : done < n)
+module _ {start : Writer} {memory codes : List ℕ} {k n running : ℕ} {now : Writer} {done : ℕ} (so_far : Recording start memory codes k n running now done) (more : done < n)
     (state : State) (is_state : state ≡ (row_of (row_bytes memory (k + done))).state) where
   abbrev piece : List ℕ
-  piece = behind_header (ope_records codes put.running (before_faulty (done + 1) state []))
+  piece = record_in codes running (done + 1) state
 
   abbrev behind : List ℕ
-  behind = behind_header (ope_records codes (put.running + length (before_faulty (done + 1) state [])) (faulty_from (done + 1 + 1) (rows_from memory (k + (done + 1)) (n - (done + 1)))))
+  behind = behind_header (ope_records codes (running + length (before_faulty (done + 1) state [])) (faulty_from (done + 1 + 1) (rows_from memory (k + (done + 1)) (n - (done + 1)))))
 
-  left_here : Left from (behind_header (ope_records codes 1 (faulty_from 1 (rows_from memory k n)))) output put.at (piece ++ behind) now
+  left_here : Left (records_in codes (rows_from memory k n)) start (piece ++ behind) now
   unfolding faulty_from rows_from
   left_here =
       let left : n - done ≡ suc (n - (done + 1)) = omega arith in
       let next_row : k + (done + 1) ≡ suc (k + done) = omega arith in
-      rw (← order_before codes put.running (done + 1) (faulty_from (done + 1 + 1) (rows_from memory (k + (done + 1)) (n - (done + 1)))) state, next_row, is_state)
+      rw (← order_before codes running (done + 1) (faulty_from (done + 1 + 1) (rows_from memory (k + (done + 1)) (n - (done + 1)))) state, next_row, is_state)
       (rw left at so_far.left)
 
-  pub order_fits : put.at + length piece ≤ length now
-  order_fits = piece_fits piece behind left_here
+  pub order_room : HasRoom piece now
+  order_room = room_first piece behind left_here.room
 
-  pub recording_on : {next : Put} {now' : List ℕ} → PutOrder codes (done + 1) state put now next now' → Recording output memory codes from k n next now' (done + 1)
-  recording_on {next} step =
+  pub recording_on : {next : ℕ} {now' : Writer} → next ≡ running + length (before_faulty (done + 1) state []) → Writes piece now now'
+      → Recording start memory codes k n next now' (done + 1)
+  recording_on is_next put =
       let few = so_far.few in
       let one = few_orders (done + 1) state in
-      let running = step.next in
-      record { far = omega arith; few = omega arith; left = rw running (piece_put piece behind left_here step.place step.text) }
+      record { few = omega arith; left = rw is_next (left_behind piece behind left_here put) }
 
-pub recording_done : {output memory codes : List ℕ} {from k n : ℕ} {put : Put} {now : List ℕ} {done : ℕ} → Recording output memory codes from k n put now done → n ≤ done
-    → now ≡ put_at from (behind_header (ope_records codes 1 (faulty_from 1 (rows_from memory k n)))) output
+pub recording_done : {start : Writer} {memory codes : List ℕ} {k n running : ℕ} {now : Writer} {done : ℕ} → Recording start memory codes k n running now done → n ≤ done
+    → Writes (records_in codes (rows_from memory k n)) start now
 unfolding faulty_from rows_from ope_records behind_header
-recording_done {n = n} {put = put} {now = now} {done = done} so_far end =
-    let far = so_far.far in
+recording_done {n = n} {done = done} so_far end =
     let none : n - done ≡ 0 = omega arith in
-    let last = rw none at so_far.left in
-    sym (put_none put.at now) ∙ last.makes
+    none_left (rw none at so_far.left)
+
+-- by which records are put row by row
+pub ruleset recording = (recording_begun, order_room, recording_on, recording_done)

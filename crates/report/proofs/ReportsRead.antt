@@ -8,7 +8,7 @@ use native.Mathlib.Omega.{arith}
 use borrow.Author.Tests.{eq-eqb, ne_eqb, eqb-true, eqb-false, leb-true}
 use lib.Dec.{eqb, leb}
 use lib.ListN.{length, get_or, length-map}
-use Rattle.text.specs.Bytes.{between, letter, letters_or_digits, same}
+use Rattle.text.specs.Bytes.{between, letter, letters_or_digits}
 use Rattle.text.specs.Fields.{fields}
 use Rattle.text.specs.Number.{number}
 use Rattle.text.specs.Quoted.{bytes}

@@ -14,9 +14,10 @@ use Rattle.epe.specs.Ident.{identifier}
 use Rattle.epe.proofs.IdentLaws.{identifier_fits}
 use Rattle.write.specs.Files.{line, file}
 use Rattle.write.specs.Spelled.{digits, places_of, spelled}
-use Rattle.write.specs.Written.{put_at}
+use Rattle.write.specs.Writer.{HasRoom}
+use Rattle.write.specs.declared.Writer.{Writer}
 use Rattle.write.proofs.Spelling.{digits_long, one_place}
-use Rattle.write.proofs.Putting.{Left, first_put}
+use Rattle.write.proofs.Pieces.{room_first}
 use Rattle.report.specs.Lines.{header_of, record_of}
 use Rattle.report.specs.Rkf.{rkf_lines, rkf, fits_rkf}
 use Rattle.report.specs.Inner.Pieces.{start_text, moment_text, opening_text, behind_header, record_text}
@@ -140,22 +141,12 @@ module _ (own : List ℕ) (created : ℕ) (source : List ℕ) (refusal : ℕ) wh
       let number = one_place 0 (omega arith) in
       ap (λ (s : List ℕ). length s) (rkf_refused is) ∙ omega arith
 
-  -- its opening fits where it does, and what is left to put behind that
-  pub opening_fits : (room : ℕ) → length (rkf own created source refusal) ≤ room → length rkf_opening ≤ room
-  opening_fits room fits =
-      let b = opening_long (start_text (bytes "RKF")) own created source in
+  -- its opening fits where it does
+  pub opening_room : {w : Writer} → HasRoom (rkf own created source refusal) w → HasRoom rkf_opening w
+  opening_room room =
       either_way (eqb refusal 0)
-      (λ is. let a = length-append rkf_opening (bytes "1") in let whole = rw (rkf_accepted is) at fits in omega arith)
-      (λ not. let a = length-append rkf_opening (bytes "0" ++ record_text 1 0 refusal) in let whole = rw (rkf_refused not) at fits in omega arith)
-
-  module _ (output : List ℕ) (fits : length (rkf own created source refusal) ≤ length output) {at : ℕ} {now : List ℕ} (is_at : at ≡ length rkf_opening)
-      (is_now : now ≡ put_at 0 rkf_opening output) where
-    pub left_accepted : eqb refusal 0 ≡ true → Left 0 (rkf own created source refusal) output at (bytes "1") now
-    left_accepted is = rw (rkf_accepted is) (first_put rkf_opening (bytes "1") output (rw (rkf_accepted is) at fits) is_at is_now)
-
-    pub left_refused : eqb refusal 0 ≡ false → Left 0 (rkf own created source refusal) output at (bytes "0" ++ record_text 1 0 refusal) now
-    left_refused not =
-        rw (rkf_refused not) (first_put rkf_opening (bytes "0" ++ record_text 1 0 refusal) output (rw (rkf_refused not) at fits) is_at is_now)
+      (λ is. room_first rkf_opening (bytes "1") (rw (rkf_accepted is) at room))
+      (λ not. room_first rkf_opening (bytes "0" ++ record_text 1 0 refusal) (rw (rkf_refused not) at room))
 
 -- identifiers that can stand in their fields are at most 17 bytes
 pub rkf_identifiers : (own : List ℕ) (created : ℕ) (source : List ℕ) (refusal : ℕ) → fits_rkf own created source refusal ≡ true

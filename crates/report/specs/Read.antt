@@ -6,7 +6,7 @@ use Rattle.text.specs.Fields.{fields}
 use Rattle.text.specs.Number.{number}
 use Rattle.text.specs.Quoted.{bytes}
 use Rattle.text.specs.Utf8.{well_formed}
-use Rattle.text.specs.declared.number.Number.TheVariants.{Of}
+use Rattle.std.specs.Prelude.{Some}
 use Rattle.epe.specs.File.{marked, text, header, records, field}
 use Rattle.epe.specs.declared.ident.Ident.{Ident}
 use Rattle.model.specs.Shipment.{Shipment}
@@ -25,7 +25,7 @@ pub record HeaderReads (report code own : List ℕ) (created : ℕ) (source : Li
   pub file_code : field 3 (header report) ≡ code
   pub edition : field 4 (header report) ≡ bytes "1.0"
   pub own_read : field 5 (header report) ≡ own
-  pub created_read : number 14 14 (field 6 (header report)) ≡ Of created
+  pub created_read : number 14 14 (field 6 (header report)) ≡ Some created
   pub source_code : field 7 (header report) ≡ bytes "EPE"
   pub source_read : field 8 (header report) ≡ source
 
@@ -33,9 +33,9 @@ pub record HeaderReads (report code own : List ℕ) (created : ℕ) (source : Li
 pub record RecordReads (line : List ℕ) (running order code : ℕ) : Type 0 where
   pub four : length (fields 0x7C line) ≡ 4
   pub is_record : field 1 line ≡ bytes "2"
-  pub running_read : number 1 10 (field 2 line) ≡ Of running
-  pub order_read : number 1 6 (field 3 line) ≡ Of order
-  pub code_read : number 3 3 (field 4 line) ≡ Of code
+  pub running_read : number 1 10 (field 2 line) ≡ Some running
+  pub order_read : number 1 6 (field 3 line) ≡ Some order
+  pub code_read : number 3 3 (field 4 line) ≡ Some code
 
 -- RKF, of a file that was accepted and of one that was refused.
 pub record RkfReads (report own : List ℕ) (created : ℕ) (source : List ℕ) (refusal : ℕ) : Type 0 where
@@ -54,7 +54,7 @@ none_faulty = record { number = 0; fault = 0 }
 
 pub record OpeReads (report own : List ℕ) (created : ℕ) (codes source : List ℕ) (orders : List FaultyOrder) : Type 0 where
   pub header_read : HeaderReads report (bytes "OPE") own created source
-  pub count_read : number 1 6 (field 9 (header report)) ≡ Of (length orders)
+  pub count_read : number 1 6 (field 9 (header report)) ≡ Some (length orders)
   pub as_many : length (records report) ≡ length orders
   pub each : (k : ℕ) → k < length orders
       → RecordReads (get_or (records report) k []) (k + 1) (get_or orders k none_faulty).number (code_for codes (get_or orders k none_faulty).fault)

@@ -1,5 +1,5 @@
 // OPE, the report on the faulty orders of a shipment.
-ghost use Rattle.std.specs.Prelude.{◌≡◌, true, ◌&&◌, [], ◌+◌, ◌-◌, ◌≤◌, ◌<◌, ◌^◌, length};
+ghost use Rattle.std.specs.Prelude.{◌≡◌, true, ◌&&◌, [], ◌+◌, ◌≤◌, ◌<◌, ◌^◌, length};
 ghost use Rattle.std.proofs.Math.Option.{some};
 ghost use Rattle.text.specs.Bytes.{between};
 ghost use Rattle.epe.specs.Ident.{identifier, ident_of};
@@ -7,12 +7,11 @@ ghost use Rattle.model.specs.Shipment.{most_rows};
 ghost use Rattle.memory.specs.Layout.{size};
 ghost use Rattle.memory.specs.Read.{rows_from, read_book, shipment_at, Sits};
 ghost use Rattle.write.specs.Spelled.{places_of};
-ghost use Rattle.write.specs.Written.{put_at, written};
+ghost use Rattle.write.specs.Writer.{HasRoom, Writes};
 ghost use Rattle.report.specs.Lines.{is_moment};
-ghost use Rattle.report.specs.Ope.{before_faulty, faulty_from, code_for, ope_records, ope_on, ope_of, ope_written};
-ghost use Rattle.report.specs.Inner.Pieces.{behind_header};
-ghost use Rattle.report.specs.Inner.Faults.{records_in, ope_text};
-ghost use Rattle.report.specs.Inner.Faults.{found_fault, found_order, found_in, PutOrder};
+ghost use Rattle.report.specs.Ope.{before_faulty, faulty_from, code_for, ope_on, ope_of, ope_written};
+ghost use Rattle.report.specs.Inner.Faults.{record_in, records_in, ope_text};
+ghost use Rattle.report.specs.Inner.Faults.{found_fault, found_order, found_in};
 
 use crate::lines::{OPENING, is_moment, put_opening, put_record};
 use crate::refusals;
@@ -23,8 +22,7 @@ use memory::name::ident;
 use memory::row::state;
 use model::State;
 use text::bytes::first;
-use text::number::is_between;
-use write::{OUTPUT_TOO_SHORT, Writing, places_of, put_number};
+use write::{OUTPUT_TOO_SHORT, Writer, Writing, places_of};
 
 // What stands before the report's own identifier.
 const START: [u8; 16] = *b"\xEF\xBB\xBF1|PP|OPE|1.0|";
@@ -37,14 +35,8 @@ pub struct Found {
     pub coded: bool,
 }
 
-// Where the next record goes, and its running number.
-#[derive(Clone, Copy)]
-pub struct Put {
-    pub at: usize,
-    pub running: u64,
-}
-
 // Writes the report on the faulty orders of a shipment: what the report is called, when it was created, and the codes of the ten faults.
+#[tactic(auto, using(acts::proofs::PlaceInBook::sits, crate::proofs::OpeAnswers::on_places))]
 pub fn write_ope(
     book: &[u8],
     id: &[u8],
@@ -63,6 +55,7 @@ pub fn write_ope(
 }
 
 // Writes the report on the shipment at a place.
+#[tactic(auto, using(crate::proofs::OpeAnswers::ope_source, crate::proofs::OpeAnswers::ope_there), unfolding(memory::specs::Heads::shipment_in))]
 fn write_at(
     book: &[u8],
     i: usize,
@@ -92,6 +85,7 @@ fn write_at(
 }
 
 // Writes the report on the n orders from row k on, of the shipment with an identifier.
+#[tactic(auto, using(write::proofs::Answers::answers, crate::proofs::OpeAnswers::on_rows), unfolding(crate::specs::Ope::ope_on))]
 fn write_on(
     source: &[u8],
     own: &[u8],
@@ -114,7 +108,7 @@ fn write_on(
         return Writing::Refused(OUTPUT_TOO_SHORT);
     }
     put_ope(
-        output,
+        &mut Writer::new(output),
         own,
         created,
         source,
@@ -135,9 +129,10 @@ fn ope_length(own: &[u8], source: &[u8], found: Found) -> usize
     OPENING + own.len() + source.len() + places_of(found.count) + found.length
 }
 
-// Puts the report at the start of an output.
+// Puts the report.
+#[tactic(auto, using(write::proofs::Pieces::pieces), unfolding(crate::specs::Inner::Faults::ope_text, crate::specs::Inner::Pieces::start_text))]
 fn put_ope(
-    output: &mut [u8],
+    output: &mut Writer,
     own: &[u8],
     created: u64,
     source: &[u8],
@@ -148,15 +143,16 @@ fn put_ope(
     codes: &[u64],
 )
     requires rows_there { (k + n ≤ most_rows) × (size ≤ length memory.now) }
-    requires room { length (ope_text own.now created source.now count (records_in codes.now (rows_from memory.now k n))) ≤ length output.old }
-    ensures { output.new ≡ written (ope_text own.now created source.now count (records_in codes.now (rows_from memory.now k n))) output.old }
+    requires room { HasRoom (ope_text own.now created source.now count (records_in codes.now (rows_from memory.now k n))) output.old }
+    ensures { Writes (ope_text own.now created source.now count (records_in codes.now (rows_from memory.now k n))) output.old output.new }
 {
-    let at = put_opening(output, &START, own, created, source);
-    let at = put_number(output, at, count);
-    put_records(output, at, memory, k, n, codes);
+    put_opening(output, &START, own, created, source);
+    output.put_number(count);
+    put_records(output, memory, k, n, codes);
 }
 
 // Can each value stand in its field?
+#[tactic(auto, using(text::proofs::Branches::branches))]
 fn fits_ope(own: &[u8], created: u64, coded: bool) -> bool
     ensures { result ≡ (identifier own.now && (is_moment created && coded)) }
 {
@@ -164,6 +160,7 @@ fn fits_ope(own: &[u8], created: u64, coded: bool) -> bool
 }
 
 // What the faulty ones of the n orders from row k on come to.
+#[tactic(auto, using(crate::proofs::FaultWalk::finding))]
 fn faults_in(memory: &[u8], k: usize, n: usize, codes: &[u64]) -> Found
     requires { (k + n ≤ most_rows) × (size ≤ length memory.now) }
     ensures { (result ≡ found_in codes.now (record { count = 0; length = 0; coded = true }) 1 (rows_from memory.now k n)) × (result.length ≤ 2 ^ 32) }
@@ -185,14 +182,10 @@ fn found_order(found: Found, number: u64, state: State, codes: &[u64]) -> Found
     requires { (found.count ≤ most_rows) × (found.length ≤ 2 ^ 32) }
     ensures { result ≡ found_order codes.now found number state }
 {
-    match state {
-        State::Open => found,
-        State::Posted => found,
-        State::Paid => found,
-        State::Faulty(fault, _, _) => found_fault(found, number, fault, codes),
-        State::Undelivered(_) => found,
-        State::Withdrawn(_, _) => found,
-    }
+    let State::Faulty(fault, _, _) = state else {
+        return found;
+    };
+    found_fault(found, number, fault, codes)
 }
 
 // One faulty order more.
@@ -209,64 +202,46 @@ fn found_fault(found: Found, number: u64, fault: u64, codes: &[u64]) -> Found
 }
 
 // Have the faults so far a code, and this one too?
+#[tactic(auto, using(text::proofs::Branches::branches))]
 fn are_coded(coded: bool, codes: &[u64], fault: u64) -> bool
     ensures { result ≡ (coded && between 308 336 (code_for codes.now fault)) }
 {
-    coded && is_between(308, 336, code_for(codes, fault))
+    coded && (308..=336).contains(&code_for(codes, fault))
 }
 
-// The code of a fault, 0 where the table has none.
+// The code of a fault, 0 where the table has none: faults are counted from 1.
 fn code_for(codes: &[u64], fault: u64) -> u64
     ensures { result ≡ code_for codes.now fault }
 {
-    let entry = entry_of(fault);
-    if entry < codes.len() as u64 {
-        codes[entry as usize]
-    } else {
-        0
-    }
+    let entry = fault.saturating_sub(1) as usize;
+    codes.get(entry).copied().unwrap_or(0)
 }
 
-// The place of a fault's entry: faults are counted from 1.
-fn entry_of(fault: u64) -> u64
-    ensures { result ≡ fault - 1 }
-{
-    if fault == 0 {
-        return 0;
-    }
-    fault - 1
-}
-
-// Puts the records of the faulty ones of the n orders from row k on behind a header.
-fn put_records(output: &mut [u8], at: usize, memory: &[u8], k: usize, n: usize, codes: &[u64])
+// Puts the records of the faulty ones of the n orders from row k on, behind a header.
+#[tactic(auto, using(crate::proofs::OrderPut::recording))]
+fn put_records(output: &mut Writer, memory: &[u8], k: usize, n: usize, codes: &[u64])
     requires rows_there { (k + n ≤ most_rows) × (size ≤ length memory.now) }
-    requires room { at + length (behind_header (ope_records codes.now 1 (faulty_from 1 (rows_from memory.now k n)))) ≤ length output.old }
-    ensures { output.new ≡ put_at at (behind_header (ope_records codes.now 1 (faulty_from 1 (rows_from memory.now k n)))) output.old }
+    requires room { HasRoom (records_in codes.now (rows_from memory.now k n)) output.old }
+    ensures { Writes (records_in codes.now (rows_from memory.now k n)) output.old output.new }
 {
-    let mut put = Put { at, running: 1 };
+    let mut running = 1;
     for done in 0..n {
         let state = state(memory, k + done);
-        put = put_order(output, put, done as u64 + 1, state, codes);
+        running = put_order(output, running, done as u64 + 1, state, codes);
     }
 }
 
-// Puts the record of an order, if it is a faulty one.
-fn put_order(output: &mut [u8], put: Put, number: u64, state: State, codes: &[u64]) -> Put
-    requires { (put.at + length (behind_header (ope_records codes.now put.running (before_faulty number state []))) ≤ length output.old) × (put.running < 2 ^ 32) }
-    ensures { PutOrder codes.now number state put output.old result output.new }
+// Puts the record of an order, if it is a faulty one, and answers the next running number.
+#[tactic(auto, using(crate::proofs::OrderPut::none_put, crate::proofs::OrderPut::one_record))]
+fn put_order(output: &mut Writer, running: u64, number: u64, state: State, codes: &[u64]) -> u64
+    requires room { HasRoom (record_in codes.now running number state) output.old }
+    requires few { running < 2 ^ 32 }
+    ensures output_after { Writes (record_in codes.now running number state) output.old output.new }
+    ensures next { result ≡ running + length (before_faulty number state []) }
 {
-    match state {
-        State::Open => put,
-        State::Posted => put,
-        State::Paid => put,
-        State::Faulty(fault, _, _) => {
-            let at = put_record(output, put.at, put.running, number, code_for(codes, fault));
-            Put {
-                at,
-                running: put.running + 1,
-            }
-        }
-        State::Undelivered(_) => put,
-        State::Withdrawn(_, _) => put,
-    }
+    let State::Faulty(fault, _, _) = state else {
+        return running;
+    };
+    put_record(output, running, number, code_for(codes, fault));
+    running + 1
 }

@@ -2,7 +2,7 @@
 -- Assumes nothing.
 use mathlib.Core.Path.{◌≡◌, refl, sym, ap, ◌∙◌}
 use mathlib.Core.Bool.{Bool, true, false, cond}
-use mathlib.Core.List.{List}
+use mathlib.Core.List.{List, ◌∷◌}
 use Prim.Native.Nat.{ℕ, zero, suc, ◌+◌, ◌*◌, ◌-◌, ◌/◌, ◌%◌, ◌^◌, ◌≤◌, ◌<◌}
 use native.Mathlib.Omega.{arith}
 use Rattle.money.specs.Money.{amount, fee, WithinSum}
@@ -89,34 +89,36 @@ module _ (parts : Parts) (row : Row) {own : Amount} {its_fee : Fee} {holding : �
   order_added = λ t. record { amounts = amounts_sum t; held = held_sum t; fees = fees_sum t; fees_held = fees_held_sum t }
 
 -- The rows from the i-th on are left of the n from the k-th on.
-pub record Going (m : List ℕ) (k n : ℕ) (parts : Parts) (i left : ℕ) : Type 0 where
-  pub place : i + left ≡ k + n
-  pub whole : (money : Money) → Adding money m k n (whole_in money parts) i left
-  pub held : (money : Money) → held_in money parts + sum_over (held_by money) (rows_from m i left) ≡ sum_over (held_by money) (rows_from m k n)
+pub record Going (m : List ℕ) (k n : ℕ) (parts : Parts) (i : ℕ) : Type 0 where
+  pub whole : (money : Money) → Adding money m k n (whole_in money parts) i (k + n - i)
+  pub held : (money : Money) → held_in money parts + sum_over (held_by money) (rows_from m i (k + n - i)) ≡ sum_over (held_by money) (rows_from m k n)
   pub held_low : (money : Money) → held_in money parts ≤ whole_in money parts
 
 module _ {m : List ℕ} {k n : ℕ} where
-  pub begun : Going m k n no_parts k n
-  begun = record { place = refl; whole = whole_begun; held = held_begun; held_low = low_begun }
+  pub begun : Going m k n no_parts k
+  begun = record { whole = whole_begun; held = held_begun; held_low = low_begun }
     where
-      whole_begun : (money : Money) → Adding money m k n (whole_in money no_parts) k n
-      whole_begun K = adding_begun
-      whole_begun O = adding_begun
+      all : k + n - k ≡ n
+      all = omega arith
 
-      held_begun : (money : Money) → held_in money no_parts + sum_over (held_by money) (rows_from m k n) ≡ sum_over (held_by money) (rows_from m k n)
-      held_begun K = omega arith
-      held_begun O = omega arith
+      whole_begun : (money : Money) → Adding money m k n (whole_in money no_parts) k (k + n - k)
+      whole_begun K = rw all adding_begun
+      whole_begun O = rw all adding_begun
+
+      held_begun : (money : Money) → held_in money no_parts + sum_over (held_by money) (rows_from m k (k + n - k)) ≡ sum_over (held_by money) (rows_from m k n)
+      held_begun K = rw all (omega arith)
+      held_begun O = rw all (omega arith)
 
       low_begun : (money : Money) → held_in money no_parts ≤ whole_in money no_parts
       low_begun K = omega arith
       low_begun O = omega arith
 
-  module _ {parts : Parts} {i left : ℕ} (going : Going m k n parts i left) where
+  module _ {parts : Parts} {i : ℕ} (going : Going m k n parts i) where
     -- the first of them
     abbrev here : Row
     here = row_of (row_bytes m i)
 
-    pub still_small : 0 < left → n ≤ most_rows → SmallParts parts
+    pub still_small : i < k + n → n ≤ most_rows → SmallParts parts
     still_small more few = record {
       amounts = omega (arith, (going.whole K).low);
       held = omega (arith, (going.whole K).low, going.held_low K);
@@ -124,10 +126,19 @@ module _ {m : List ℕ} {k n : ℕ} where
       fees_held = omega (arith, (going.whole O).low, going.held_low O);
     }
 
-    pub one_more : {next : Parts} → 0 < left → next ≡ with_order parts here
-        → next.amounts.0 < parts.amounts.0 + 2 ^ 32 → next.fees.0 < parts.fees.0 + 2 ^ 32 → Going m k n next (i + 1) (left - 1)
-    one_more {next} more next_is amount_small fee_small = record { place = omega (arith, going.place); whole = whole_on; held = held_on; held_low = low_on }
+    pub one_more : {next : Parts} → i < k + n → next ≡ with_order parts here
+        → next.amounts.0 < parts.amounts.0 + 2 ^ 32 → next.fees.0 < parts.fees.0 + 2 ^ 32 → Going m k n next (i + 1)
+    one_more {next} more next_is amount_small fee_small = record { whole = whole_on; held = held_on; held_low = low_on }
       where
+        some : 0 < k + n - i
+        some = omega arith
+
+        fewer : k + n - i - 1 ≡ k + n - (i + 1)
+        fewer = omega arith
+
+        rows : rows_from m i (k + n - i) ≡ here ∷ rows_from m (i + 1) (k + n - (i + 1))
+        rows = rw fewer at (rows_on m i (k + n - i) some)
+
         whole_next : (money : Money) → whole_in money next ≡ whole_in money parts + worth money here
         whole_next K = ap (whole_in K) next_is
         whole_next O = ap (whole_in O) next_is
@@ -140,23 +151,24 @@ module _ {m : List ℕ} {k n : ℕ} where
         small K = amount_small
         small O = fee_small
 
-        whole_on : (money : Money) → Adding money m k n (whole_in money next) (i + 1) (left - 1)
-        whole_on money = adding_on (going.whole money) more refl (omega (arith, whole_next money, small money)) (whole_next money)
+        whole_on : (money : Money) → Adding money m k n (whole_in money next) (i + 1) (k + n - (i + 1))
+        whole_on money = rw fewer at (adding_on (going.whole money) some refl (omega (arith, whole_next money, small money)) (whole_next money))
 
-        held_on : (money : Money) → held_in money next + sum_over (held_by money) (rows_from m (i + 1) (left - 1)) ≡ sum_over (held_by money) (rows_from m k n)
-        held_on money = omega (arith, going.held money, held_next money, ap (sum_over (held_by money)) (rows_on m i left more))
+        held_on : (money : Money) → held_in money next + sum_over (held_by money) (rows_from m (i + 1) (k + n - (i + 1))) ≡ sum_over (held_by money) (rows_from m k n)
+        held_on money = omega (arith, going.held money, held_next money, ap (sum_over (held_by money)) rows)
 
         low_on : (money : Money) → held_in money next ≤ whole_in money next
         low_on money = omega (arith, going.held_low money, held_next money, whole_next money, at_most (holds money here.state) (worth money here))
 
-    pub all_added : left ≤ 0 → parts ≡ parts_of (rows_from m k n)
+    pub all_added : k + n ≤ i → parts ≡ parts_of (rows_from m k n)
     all_added done =
+        let none : k + n - i ≤ 0 = omega arith in
         let held_are : (money : Money) → held_in money parts ≡ sum_over (held_by money) (rows_from m k n)
-        = λ money. omega (arith, going.held money, ap (sum_over (held_by money)) (rows_done m i left done)) in
+        = λ money. omega (arith, going.held money, ap (sum_over (held_by money)) (rows_done m i (k + n - i) none)) in
         λ t. record {
-          amounts = amount (adding_done (going.whole K) done t);
+          amounts = amount (adding_done (going.whole K) none t);
           held = amount (held_are K t);
-          fees = fee (adding_done (going.whole O) done t);
+          fees = fee (adding_done (going.whole O) none t);
           fees_held = fee (held_are O t);
         }
 
@@ -180,3 +192,12 @@ module _ (m : List ℕ) (i k : ℕ) {head : List ℕ} (is_head : head ≡ head_b
     pub parts_paired : {parts : Parts} → paired ≡ true → parts ≡ parts_of (rows_from m k n) → parts ≡ parts_once_paired (shipment_at m i k)
     unfolding parts_once_paired shipment_in
     parts_paired together told = told ∙ rw (paired_test ∙ together) (ap (λ count. parts_of (rows_from m k count)) count_is)
+
+-- by which an order is added
+pub ruleset order_sums = (holding_most, part_fits, with_part_fits, with_part_within, order_added)
+
+-- and order after order
+pub ruleset going = (begun, still_small, one_more, all_added)
+
+-- and by the stage
+pub ruleset by_stage = (none_unpaired, rows_there, parts_paired)

@@ -17,6 +17,8 @@ use Rattle.memory.proofs.HeadFields.{accepted_is, returned_is}
 use Rattle.sheet.specs.declared.row.Parts.{Parts}
 use Rattle.sheet.specs.Sheet.{left}
 use Rattle.sheet.specs.Inner.Parts.{held_by, no_parts, parts_of, whole_in, held_in, parts_once_paired, divided, division_of}
+use Rattle.sheet.specs.declared.division.Division.{Division}
+use Rattle.sheet.specs.Inner.Filling.{DivisionWithin}
 use Rattle.sheet.proofs.Balance.{balances}
 
 -- the parts of a shipment are its need and what it holds
@@ -61,6 +63,13 @@ module _ (money : Money) (s : Shipment) (sound : shipment_sound s ≡ true) wher
         left = rest t;
       }
 
+-- each of its sums is a total
+pub division_within_lem : (money : Money) (s : Shipment) → shipment_sound s ≡ true → DivisionWithin (division_of money s)
+division_within_lem money s sound =
+    let whole = balances money s sound in
+    let low = ((in_order s sound).moneys money).accepted_fits in
+    record { first = omega arith; second = omega arith; third = omega arith; fourth = omega arith }
+
 -- as code reads a head
 module _ (m : List ℕ) (i k : ℕ) (sits : Sits m i k) {head : List ℕ} (is_head : head ≡ head_bytes m i) (money : Money) {a r : ℕ}
     (a_is : a ≡ transfers_in money head) (r_is : r ≡ surplus_in money head) {n h : ℕ}
@@ -76,3 +85,6 @@ module _ (m : List ℕ) (i k : ℕ) (sits : Sits m i k) {head : List ℕ} (is_he
 
   pub division_is : divided a r n h ≡ division_of money s
   division_is = (λ t. divided (accepted_known t) (returned_known t) (n_is t) (h_is t)) ∙ divided_is money s sits.sound
+
+pub division_low : (s : Shipment) → shipment_sound s ≡ true → (money : Money) → {d : Division} → d ≡ division_of money s → DivisionWithin d
+division_low s sound money is = rw is (division_within_lem money s sound)

@@ -8,7 +8,7 @@ use native.Mathlib.Numerals.{add-one}
 use native.Mathlib.Omega.{arith}
 use borrow.Author.Tests.{leb-true, le-ltb}
 use lib.Dec.{leb, ltb}
-use lib.ListN.{length, drop, set, length-set, length-drop}
+use lib.ListN.{length, drop, set, length-drop}
 use lib.Seq.{drop-drop}
 use Rattle.text.proofs.Branches.{either_way}
 use Rattle.epe.specs.Questions.{asked}
@@ -24,14 +24,6 @@ use Rattle.sheet.specs.Sheet.{row_for, plus_all, within_cap, sheet_of}
 use Rattle.sheet.specs.Inner.Filling.{Stands, plan_of, rows_to_fill, answer_of, start_of, row_in, filled_to, Fillable}
 use Rattle.sheet.proofs.Standing.{stands_first, sits_here, stands_next}
 use Rattle.sheet.proofs.Planning.{book_long}
-
--- a table keeps its length, and one row more is filled
-pub length_filled : (m : List ℕ) (n : ℕ) (table : List SheetRow) → length (filled_to m n table) ≡ length table
-length_filled m zero table = refl
-length_filled m (suc n) table = length-set (filled_to m n table) n (row_in m n) ∙ length_filled m n table
-
-pub filled_next : (m : List ℕ) (n : ℕ) (table : List SheetRow) → set (filled_to m n table) n (row_in m n) ≡ filled_to m (n + 1) table
-filled_next m n table = ap (λ k. filled_to m k table) (sym (add-one n))
 
 -- the rows of n shipments from the i-th on
 rows_over : List ℕ → ℕ → ℕ → List SheetRow
@@ -87,9 +79,8 @@ module _ (m : List ℕ) (table : List SheetRow) where
 stands_at : (m : List ℕ) (i : ℕ) → sound_in m ≡ true → i ≤ shipments_in m → Stands m i (start_of m i) (shipments_in m - i)
 stands_at m zero sound within = let all : shipments_in m - 0 ≡ shipments_in m = omega arith in rw all (stands_first m sound)
 stands_at m (suc i) sound within =
-    let next = stands_next (stands_at m i sound (omega arith)) (omega arith) refl in
-    let fewer : shipments_in m - i - 1 ≡ shipments_in m - suc i = omega arith in
-    rw (add-one, fewer) at next
+    let here = stands_at m i sound (omega arith) in
+    rw add-one at (stands_next here (omega arith) refl)
 
 -- what the questions come to, case by case
 module _ (m : List ℕ) (table : List SheetRow) (totals : Totals) where

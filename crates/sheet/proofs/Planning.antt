@@ -54,3 +54,6 @@ module _ (m : List ℕ) (room : ℕ) (totals : Totals) where
         ap (plan_from totals) told
         ∙ adding_plan totals (map row_for (book_in m))
         ∙ rw (book_read, le-leb (length (book_in m)) room (omega (arith, book_long m, is_all, enough)))
+
+-- by which the questions of a sheet are answered
+pub ruleset planning = (no_book, no_room, as_added)

@@ -1,9 +1,9 @@
 -- Going from shipment to shipment of a sound book: each is at its place, and those after it are left.
 -- Assumes nothing.
-use mathlib.Core.Path.{◌≡◌, refl}
+use mathlib.Core.Path.{◌≡◌}
 use mathlib.Core.Bool.{true}
 use mathlib.Core.List.{List, [], ◌∷◌, map}
-use Prim.Native.Nat.{ℕ, zero, suc, ◌+◌, ◌-◌, ◌≤◌, ◌<◌}
+use Prim.Native.Nat.{ℕ, suc, ◌+◌, ◌-◌, ◌≤◌, ◌<◌}
 use native.Mathlib.Numerals.{add-one}
 use native.Mathlib.Omega.{arith}
 use Rattle.model.specs.Sound.{shipments_sound}
@@ -45,32 +45,21 @@ module _ {m : List ℕ} {i k : ℕ} where
   }
 
 -- as code goes
-module _ {m : List ℕ} {i k left : ℕ} (stands : Stands m i k left) (more : 0 < left) where
+module _ {m : List ℕ} {i k n : ℕ} (stands : Stands m i k (n - i)) (more : i < n) where
+  left : n - i ≡ suc (n - suc i)
+  left = omega arith
+
   pub sits_here : Sits m i k
-  sits_here = by left more stands
-    where
-      by : (n : ℕ) → 0 < n → Stands m i k n → Sits m i k
-      by zero h stands = absurd (omega arith)
-      by (suc n) h stands = first_sits n stands
+  sits_here = first_sits (n - suc i) (rw left at stands)
 
-  pub stands_next : {n : ℕ} → n ≡ orders_at m i → Stands m (i + 1) (k + n) (left - 1)
-  stands_next {n} is_count = by left more stands
-    where
-      by : (left : ℕ) → 0 < left → Stands m i k left → Stands m (i + 1) (k + n) (left - 1)
-      by zero h stands = absurd (omega arith)
-      by (suc rest) h stands = let fewer : suc rest - 1 ≡ rest = omega arith in rw (fewer, add-one, is_count) (rest_stands rest stands)
+  pub stands_next : {count : ℕ} → count ≡ orders_at m i → Stands m (i + 1) (k + count) (n - (i + 1))
+  stands_next is_count = rw (add-one, is_count) (rest_stands (n - suc i) (rw left at stands))
 
-  pub row_then : {n : ℕ} → n ≡ orders_at m i
-      → map row_for (shipments_from m i k left) ≡ row_for (shipment_at m i k) ∷ map row_for (shipments_from m (i + 1) (k + n) (left - 1))
+  pub row_then : {count : ℕ} → count ≡ orders_at m i
+      → map row_for (shipments_from m i k (n - i)) ≡ row_for (shipment_at m i k) ∷ map row_for (shipments_from m (i + 1) (k + count) (n - (i + 1)))
   unfolding shipments_from
-  row_then {n} is_count = by left more
-    where
-      by : (left : ℕ) → 0 < left
-          → map row_for (shipments_from m i k left) ≡ row_for (shipment_at m i k) ∷ map row_for (shipments_from m (i + 1) (k + n) (left - 1))
-      by zero h = absurd (omega arith)
-      by (suc rest) h = let fewer : suc rest - 1 ≡ rest = omega arith in rw (fewer, add-one, is_count)
+  row_then is_count = rw (left, add-one, is_count)
 
-pub rows_end : (m : List ℕ) (i k left : ℕ) → left ≤ 0 → map row_for (shipments_from m i k left) ≡ []
+pub rows_end : (m : List ℕ) (i k n : ℕ) → n ≤ i → map row_for (shipments_from m i k (n - i)) ≡ []
 unfolding shipments_from
-rows_end m i k zero h = refl
-rows_end m i k (suc n) h = absurd (omega arith)
+rows_end m i k n done = let none : n - i ≡ 0 = omega arith in rw none

@@ -9,19 +9,18 @@ use native.Mathlib.Omega.{arith}
 use borrow.Author.Tests.{leb-true, le-leb}
 use Rattle.text.proofs.Branches.{and_left, and_right, both_yes, either_way}
 use Rattle.money.specs.Money.{total_cap}
-use Rattle.money.specs.declared.Money.{Money}
 use Rattle.money.specs.declared.Money.TheVariants.{K, O}
-use Rattle.model.specs.Shipment.{Shipment, accepted, free, held}
+use Rattle.model.specs.Shipment.{Shipment}
 use Rattle.model.specs.Sound.{shipment_sound}
-use Rattle.model.proofs.SoundParts.{halves, in_order}
+use Rattle.model.proofs.SoundParts.{halves}
 use Rattle.memory.specs.Read.{orders_at, shipment_at, shipments_from, shipments_in, book_in, sound_in}
 use Rattle.sheet.specs.declared.SheetRow.{SheetRow}
 use Rattle.sheet.specs.declared.Totals.{Totals}
 use Rattle.sheet.specs.declared.total.Adding.{Adding}
 use Rattle.sheet.specs.declared.total.Adding.TheVariants.{Added, Above}
-use Rattle.sheet.specs.Sheet.{left, row_for, plus, plus_all, four_within, amounts_within, fees_within, within_cap}
+use Rattle.sheet.specs.Sheet.{row_for, plus, plus_all, four_within, amounts_within, fees_within, within_cap}
 use Rattle.sheet.specs.Inner.Filling.{Stands, Within, TotalsWithin, RowWithin, adding_of}
-use Rattle.sheet.proofs.Balance.{balances}
+use Rattle.sheet.proofs.Dividing.{division_within_lem}
 use Rattle.sheet.proofs.Standing.{stands_first, sits_here, stands_next, row_then, rows_end}
 
 -- four sums within the cap, in plain terms and as a test
@@ -62,12 +61,7 @@ lower h first second third fourth = record {
 -- the sums of a row
 row_within : (s : Shipment) → shipment_sound s ≡ true → RowWithin (row_for s)
 unfolding row_for
-row_within s sound =
-    let of : (money : Money) → Within (accepted money s) (held money s) (free money s) (left money s) = λ money.
-    let whole = balances money s sound in
-    let low = ((in_order s sound).moneys money).accepted_fits in
-    record { first = omega arith; second = omega arith; third = omega arith; fourth = omega arith } in
-    (of K, of O)
+row_within s sound = (division_within_lem K s sound, division_within_lem O s sound)
 
 -- a total that is within the cap at the end was so before
 pub was_within : (totals : Totals) (rows : List SheetRow) → within_cap (plus_all totals rows) ≡ true → within_cap totals ≡ true
@@ -90,26 +84,28 @@ above_already totals rows above =
     (λ over. rw over)
 
 -- The rows of the shipments from the i-th on are left to add.
-pub record Summing (m : List ℕ) (totals sums : Totals) (i k left : ℕ) : Type 0 where
-  pub stands : Stands m i k left
-  pub whole : plus_all sums (map row_for (shipments_from m i k left)) ≡ plus_all totals (map row_for (book_in m))
+pub record Summing (m : List ℕ) (totals sums : Totals) (i k n : ℕ) : Type 0 where
+  pub stands : Stands m i k (n - i)
+  pub whole : plus_all sums (map row_for (shipments_from m i k (n - i))) ≡ plus_all totals (map row_for (book_in m))
   pub within : within_cap sums ≡ true
 
 module _ {m : List ℕ} {totals : Totals} where
   pub summing_begun : {n : ℕ} → sound_in m ≡ true → n ≡ shipments_in m → within_cap totals ≡ true → Summing m totals totals 0 0 n
   unfolding book_in
-  summing_begun sound is_all capped = rw is_all (record { stands = stands_first m sound; whole = refl; within = capped })
+  summing_begun {n} sound is_all capped =
+      let all : n - 0 ≡ shipments_in m = omega arith in
+      record { stands = rw all (stands_first m sound); whole = rw all; within = capped }
 
-  module _ {sums : Totals} {i k left : ℕ} (summing : Summing m totals sums i k left) where
-    module _ {row : SheetRow} (more : 0 < left) (is_row : row ≡ row_for (shipment_at m i k)) where
+  module _ {sums : Totals} {i k n : ℕ} (summing : Summing m totals sums i k n) where
+    module _ {row : SheetRow} (more : i < n) (is_row : row ≡ row_for (shipment_at m i k)) where
       pub row_low : RowWithin row
       row_low = rw is_row (row_within (shipment_at m i k) (sits_here summing.stands more).sound)
 
       -- the rows after this one
       abbrev after : ℕ → List SheetRow
-      after n = map row_for (shipments_from m (i + 1) (k + n) (left - 1))
+      after count = map row_for (shipments_from m (i + 1) (k + count) (n - (i + 1)))
 
-      whole_after : {n : ℕ} → n ≡ orders_at m i → plus_all (plus sums row) (after n) ≡ plus_all totals (map row_for (book_in m))
+      whole_after : {count : ℕ} → count ≡ orders_at m i → plus_all (plus sums row) (after count) ≡ plus_all totals (map row_for (book_in m))
       unfolding plus_all
       whole_after is_count = rw is_row (ap (plus_all sums) (sym (row_then summing.stands more is_count)) ∙ summing.whole)
 
@@ -117,14 +113,17 @@ module _ {m : List ℕ} {totals : Totals} where
       unfolding adding_of
       above_here above = above_already (plus sums row) (after (orders_at m i)) above ∙ ap adding_to (whole_after refl)
 
-      pub summing_on : {next : Totals} {n : ℕ} → within_cap (plus sums row) ≡ true → next ≡ plus sums row → n ≡ orders_at m i
-          → Summing m totals next (i + 1) (k + n) (left - 1)
+      pub summing_on : {next : Totals} {count : ℕ} → within_cap (plus sums row) ≡ true → next ≡ plus sums row → count ≡ orders_at m i
+          → Summing m totals next (i + 1) (k + count) n
       summing_on within is_next is_count =
           rw is_next (record { stands = stands_next summing.stands more is_count; whole = whole_after is_count; within = within })
 
-    pub all_summed : left ≤ 0 → Added sums ≡ adding_of totals (map row_for (book_in m))
+    pub all_summed : n ≤ i → Added sums ≡ adding_of totals (map row_for (book_in m))
     unfolding plus_all adding_of
     all_summed done =
-        let are : sums ≡ plus_all totals (map row_for (book_in m)) = ap (plus_all sums) (sym (rows_end m i k left done)) ∙ summing.whole in
+        let are : sums ≡ plus_all totals (map row_for (book_in m)) = ap (plus_all sums) (sym (rows_end m i k n done)) ∙ summing.whole in
         let here : Added sums ≡ adding_to sums = rw summing.within in
         here ∙ ap adding_to are
+
+-- by which rows are added up
+pub ruleset summing = (cap_within, above_already, summing_begun, row_low, above_here, summing_on, all_summed)

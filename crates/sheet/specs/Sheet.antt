@@ -52,13 +52,6 @@ worth_where test money s = sum_over (λ (row : Row). only_if (test row.state) (w
 unfoldable pub left : Money → Shipment → ℕ
 left money s = worth_where (is_out money) money s + only_if (is_paired s.stage) (worth_where (waits_no_more money) money s) + returned money s
 
--- What was accepted of a money is divided: what is held, what is free, and the rest has left.
-pub record Division : Type 0 where
-  pub accepted : ℕ
-  pub held : ℕ
-  pub free : ℕ
-  pub left : ℕ
-
 -- "The sheet fills a lent table, one row per shipment: identifier; accepted, held, free, left, for K and for O."
 abbrev pub amounts_of : Shipment → Amounts
 amounts_of s = record { accepted = amount (accepted K s); held = amount (held K s); free = amount (free K s); left = amount (left K s) }

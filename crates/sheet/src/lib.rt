@@ -1,6 +1,7 @@
 // The balance sheet: a row to a shipment in a lent table, and totals.
 #![tactic(auto)]
 
+mod division;
 mod row;
 mod total;
 
@@ -85,6 +86,7 @@ const NO_ROOM: u64 = 25;
 const ABOVE_CAP: u64 = 26;
 
 // The balance sheet of a book: a row of the table is filled for each shipment, in order of intake, and the rows are added to the totals.
+#[tactic(auto, using(crate::proofs::Filled::can_fill, crate::proofs::Filled::sheet_done))]
 pub fn sheet(book: &[u8], table: &mut [SheetRow], totals: &mut Totals) -> Sheeting
     ensures { record { answer = result; table = table.new; totals = totals.new } ≡ sheet_of (read_book book.now) table.old totals.old }
 {
@@ -104,6 +106,7 @@ fn add_rows(totals: &mut Totals, book: &[u8], room: usize) -> u64
 }
 
 // How many rows are to fill where a sheet is refused with a number, or with 0 is not.
+#[tactic(auto, using(text::proofs::Branches::branches), unfolding(crate::specs::Inner::Filling::rows_to_fill))]
 fn rows_to_fill(book: &[u8], number: u64) -> usize
     ensures { result ≡ rows_to_fill book.now number }
 {
@@ -121,17 +124,16 @@ fn fill(table: &mut [SheetRow], book: &[u8], n: usize)
     requires { Fillable book.now (length table.old) n }
     ensures { table.new ≡ filled_to book.now n table.old }
 {
-    let mut i = 0;
     let mut k = 0;
-    while i < n {
+    for i in 0..n {
         let line = line_at(book, i, k);
         table[i] = line.row;
         k = line.next;
-        i += 1;
     }
 }
 
 // What is answered.
+#[tactic(auto, using(text::proofs::Branches::branches), unfolding(crate::specs::Inner::Filling::answer_of))]
 fn answer(rows: usize, number: u64) -> Sheeting
     ensures { result ≡ answer_of rows number }
 {
@@ -142,6 +144,7 @@ fn answer(rows: usize, number: u64) -> Sheeting
 }
 
 // Asks the questions of a sheet whose table has so many rows, and adds up.
+#[tactic(auto, using(sound::proofs::ReadLaws::sound_parts, crate::proofs::Planning::planning))]
 fn plan_sheet(book: &[u8], room: usize, totals: Totals) -> Plan
     ensures { result ≡ plan_of (read_book book.now) room totals }
 {
@@ -171,6 +174,7 @@ fn plan_sheet(book: &[u8], room: usize, totals: Totals) -> Plan
 }
 
 // The row of the shipment at a place, and where the next one's orders begin.
+#[tactic(auto, using(memory::proofs::HeadFields::orders_are))]
 fn line_at(book: &[u8], i: usize, k: usize) -> Line
     requires { Sits book.now i k }
     ensures { result ≡ line_at book.now i k }

@@ -1,21 +1,21 @@
 // A row of the sheet. A shipment's orders are passed once; what has left is what was accepted, less what is held and what is free.
 ghost use Rattle.std.specs.Prelude.{◌≡◌, ◌+◌, ◌≤◌, ◌<◌, ◌^◌, length};
-ghost use Rattle.model.specs.Shipment.{most_rows};
+ghost use Rattle.model.specs.Shipment.{most_rows, need_once_paired, held};
 ghost use Rattle.memory.specs.Layout.{size, row_bytes};
 ghost use Rattle.memory.specs.Rows.{row_of};
 ghost use Rattle.memory.specs.Read.{rows_from, shipment_at, Sits};
 ghost use Rattle.memory.specs.Inner.Holdings.{holding_table};
-ghost use Rattle.sheet.specs.Sheet.{amounts_of, fees_of, row_for};
-ghost use Rattle.sheet.specs.Inner.Parts.{no_parts, with_order, parts_of, parts_once_paired, SmallParts, divided, amounts_from, fees_from};
+ghost use Rattle.sheet.specs.Sheet.{row_for};
+ghost use Rattle.sheet.specs.Inner.Parts.{no_parts, with_order, parts_of, parts_once_paired, SmallParts, division_of};
+ghost use Rattle.sheet.specs.Inner.Filling.{DivisionWithin};
 
+use crate::division::Division;
 use crate::{Amounts, Fees, SheetRow};
-use memory::head::{
-    amounts_accepted, amounts_returned, fees_accepted, fees_returned, head_bytes, is_paired, orders,
-};
+use memory::head::{accepted, head_bytes, is_paired, orders, returned};
 use memory::holding::{holding, holding_table};
 use memory::name::ident;
 use memory::row::{amount, fee};
-use money::{Amount, Fee};
+use money::{Amount, Fee, Grosze, Money};
 
 // Of orders: all their amounts, the amounts held, all their fees, and the fees held.
 #[derive(Clone, Copy)]
@@ -27,22 +27,24 @@ pub struct Parts {
 }
 
 // The row of the shipment at a place.
+#[tactic(auto, using(crate::proofs::Dividing::all_needed, crate::proofs::Dividing::all_held), unfolding(memory::specs::Heads::shipment_in, crate::specs::Sheet::row_for))]
 pub fn row_at(memory: &[u8], i: usize, k: usize) -> SheetRow
     requires { Sits memory.now i k }
     ensures { result ≡ row_for (shipment_at memory.now i k) }
 {
     let parts = parts_at(memory, i, k);
     let ident = ident(head_bytes(memory, i));
-    let amounts = amounts_at(memory, i, k, parts);
-    let fees = fees_at(memory, i, k, parts);
+    let amounts = division_at(memory, i, k, Money::K, parts.amounts.0, parts.held.0);
+    let fees = division_at(memory, i, k, Money::O, parts.fees.0, parts.fees_held.0);
     SheetRow {
         ident,
-        amounts,
-        fees,
+        amounts: Amounts::of(amounts),
+        fees: Fees::of(fees),
     }
 }
 
 // The parts of the shipment at a place; none unless it is Paired.
+#[tactic(auto, using(crate::proofs::Adding::by_stage))]
 fn parts_at(memory: &[u8], i: usize, k: usize) -> Parts
     requires { Sits memory.now i k }
     ensures { result ≡ parts_once_paired (shipment_at memory.now i k) }
@@ -54,26 +56,17 @@ fn parts_at(memory: &[u8], i: usize, k: usize) -> Parts
     parts_of(memory, k, orders(head) as usize)
 }
 
-// The amounts of the shipment at a place, by its parts.
-fn amounts_at(memory: &[u8], i: usize, k: usize, parts: Parts) -> Amounts
-    requires { Sits memory.now i k × (parts ≡ parts_once_paired (shipment_at memory.now i k)) }
-    ensures { result ≡ amounts_of (shipment_at memory.now i k) }
+// What was accepted of a money in the shipment at a place, divided by what its orders need and hold: each order needs its own worth, and holds it or not.
+#[tactic(auto, using(memory::proofs::HeadFields::accepted_within, memory::proofs::HeadFields::returned_within))]
+fn division_at(memory: &[u8], i: usize, k: usize, money: Money, needs: u64, holds: u64) -> Division
+    requires { Sits memory.now i k × (needs ≡ need_once_paired money (shipment_at memory.now i k)) × (holds ≡ held money (shipment_at memory.now i k)) }
+    ensures value { result ≡ division_of money (shipment_at memory.now i k) }
+    ensures within { DivisionWithin result }
 {
     let head = head_bytes(memory, i);
-    let accepted = amounts_accepted(head);
-    let returned = amounts_returned(head);
-    amounts_divided(accepted, returned, parts.amounts, parts.held)
-}
-
-// Its fees, likewise: each order needs its own fee, and holds it or not.
-fn fees_at(memory: &[u8], i: usize, k: usize, parts: Parts) -> Fees
-    requires { Sits memory.now i k × (parts ≡ parts_once_paired (shipment_at memory.now i k)) }
-    ensures { result ≡ fees_of (shipment_at memory.now i k) }
-{
-    let head = head_bytes(memory, i);
-    let accepted = fees_accepted(head);
-    let returned = fees_returned(head);
-    fees_divided(accepted, returned, parts.fees, parts.fees_held)
+    let accepted = accepted(head, money).grosze();
+    let returned = returned(head, money).grosze();
+    Division::of(accepted, returned, needs, holds)
 }
 
 // No parts.
@@ -91,51 +84,21 @@ fn no_parts() -> Parts
 }
 
 // The parts of the n rows from the k-th on.
+#[tactic(auto, using(crate::proofs::Adding::going))]
 fn parts_of(memory: &[u8], k: usize, n: usize) -> Parts
     requires { (k + n ≤ most_rows) × (size ≤ length memory.now) }
     ensures { result ≡ parts_of (rows_from memory.now k n) }
 {
     let table = holding_table();
     let mut parts = no_parts();
-    let mut i = k;
-    let mut left = n;
-    while 0 < left {
+    for i in k..k + n {
         parts = with_order(parts, memory, i, &table);
-        i += 1;
-        left -= 1;
     }
     parts
 }
 
-// Divides the amounts accepted, by what was returned of them, is needed and is held.
-fn amounts_divided(accepted: Amount, returned: Amount, need: Amount, held: Amount) -> Amounts
-    ensures { result ≡ amounts_from (divided accepted.0 returned.0 need.0 held.0) }
-{
-    let free = accepted.less(need).less(returned);
-    let left = accepted.less(held).less(free);
-    Amounts {
-        accepted,
-        held,
-        free,
-        left,
-    }
-}
-
-// Divides the fees accepted likewise.
-fn fees_divided(accepted: Fee, returned: Fee, need: Fee, held: Fee) -> Fees
-    ensures { result ≡ fees_from (divided accepted.0 returned.0 need.0 held.0) }
-{
-    let free = accepted.less(need).less(returned);
-    let left = accepted.less(held).less(free);
-    Fees {
-        accepted,
-        held,
-        free,
-        left,
-    }
-}
-
 // The parts with the order of row k.
+#[tactic(auto, using(crate::proofs::Adding::order_sums))]
 fn with_order(parts: Parts, memory: &[u8], k: usize, table: &[u64]) -> Parts
     requires { (k < most_rows) × (size ≤ length memory.now) × (table.now ≡ holding_table) × SmallParts parts }
     ensures { (result ≡ with_order parts (row_of (row_bytes memory.now k))) × (result.amounts.0 < parts.amounts.0 + 2 ^ 32) × (result.fees.0 < parts.fees.0 + 2 ^ 32) }

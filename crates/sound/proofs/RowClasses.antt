@@ -83,7 +83,7 @@ module _ (terms : Terms) (stage : Stage) (paired : Bool) (e : is_paired stage �
 
   rows_low : (classes : ℕ) (rows : List Row) → classes < cond paired 4 2 → rows_sound terms stage rows ≡ true
       → (joined classes rows < cond paired 4 2) × (each (row_charged terms) rows ≡ true)
-  unfolding rows_sound each
+  unfolding rows_sound
   rows_low classes [] low h = (low, refl)
   rows_low classes (row ∷ rows) low h =
       let first = row_low row (search halves) in
@@ -91,7 +91,7 @@ module _ (terms : Terms) (stage : Stage) (paired : Bool) (e : is_paired stage �
       (rest.0, both_yes (row_charged terms row) _ first.1 rest.1)
 
   low_rows : (classes : ℕ) (rows : List Row) → joined classes rows < cond paired 4 2 → each (row_charged terms) rows ≡ true → rows_sound terms stage rows ≡ true
-  unfolding rows_sound each
+  unfolding rows_sound
   low_rows classes [] low charged = refl
   low_rows classes (row ∷ rows) low charged =
       let class = class_of row.state in

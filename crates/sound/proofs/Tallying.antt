@@ -62,14 +62,12 @@ module _ (test : Row → Bool) (m : List ℕ) (k n : ℕ) where
   asking_begun = rw (from_first k n)
 
   pub asking_on : (fit : Bool) (i : ℕ) → i < k + n → Asking test m k n fit i → Asking test m k n (fit && test (row_of (row_bytes m i))) (i + 1)
-  unfolding each
   asking_on fit i more going =
       and_assoc fit (test (row_of (row_bytes m i))) (each test (rows_from m (i + 1) (k + n - (i + 1))))
       ∙ ap (λ rows. fit && each test rows) (sym (rows_more m i (k + n) more))
       ∙ going
 
   pub asking_done : (fit : Bool) (i : ℕ) → k + n ≤ i → Asking test m k n fit i → fit ≡ each test (rows_from m k n)
-  unfolding each
   asking_done fit i done going = sym (and_yes fit) ∙ ap (λ rows. fit && each test rows) (sym (rows_none m i (k + n) done)) ∙ going
 
 module _ (m : List ℕ) (k n : ℕ) where
@@ -90,12 +88,10 @@ four_ways true false false t = refl
 four_ways false b s t = refl
 
 both_each : {A : Type 0} (f g : A → Bool) (l : List A) → each (λ a. f a && g a) l ≡ (each f l && each g l)
-unfolding each
 both_each f g [] = refl
 both_each f g (a ∷ l) = ap (λ t. (f a && g a) && t) (both_each f g l) ∙ four_ways (f a) (g a) (each f l) (each g l)
 
 same_each : {A : Type 0} {f g : A → Bool} → ((a : A) → f a ≡ g a) → (l : List A) → each f l ≡ each g l
-unfolding each
 same_each same [] = refl
 same_each same (a ∷ l) = λ i. same a i && same_each same l i
 
@@ -141,7 +137,6 @@ module _ (flat : Fee) (within : WithinOrder flat.0) (rows : List Row) where
 
 -- fees that are all the flat part, added up
 pub flat_sum : (flat : ℕ) (rows : List Row) → each (is_flat flat) rows ≡ true → sum_over (worth O) rows ≡ length rows * flat
-unfolding each
 flat_sum flat [] h = omega arith
 flat_sum flat (row ∷ rows) h =
     let first = eqb-true row.fee.0 flat (and_left (is_flat flat row) (each (is_flat flat) rows) h) in

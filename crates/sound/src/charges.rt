@@ -13,7 +13,7 @@ ghost use Rattle.sound.specs.Inner.Charges.{amount_fits, fee_fits, remainder_fit
 use fee::{Rate, Terms, difference};
 use memory::column::amounts_in;
 use memory::row::{amount, fee, remainder};
-use money::{Amount, Fee};
+use money::{Amount, Fee, Grosze};
 
 // The sums of amounts and of fees, and whether each order is charged its fee. The fees are only added up right where each is.
 #[derive(Clone, Copy)]

@@ -15,7 +15,7 @@ use memory::head::{
     is_waiting, orders, returned, terms,
 };
 use memory::name::has_name_in_form;
-use money::{Fee, Sum};
+use money::{Fee, Grosze, Sum};
 
 // Are n shipments sound, each by itself?
 #[tactic(auto, using(text::proofs::Branches::branches, crate::proofs::HeadByHead::sound_more, crate::proofs::HeadByHead::sound_all, crate::proofs::HeadByHead::sound_room))]

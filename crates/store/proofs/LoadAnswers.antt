@@ -8,7 +8,7 @@ use Prim.Native.Nat.{ℕ, ◌+◌, ◌*◌, ◌≤◌, ◌<◌, ◌-◌}
 use native.Mathlib.Omega.{arith}
 use borrow.Author.Tests.{leb-true, le-leb}
 use lib.Dec.{leb, eqb}
-use lib.ListN.{length, get_or, drop}
+use lib.ListN.{length, get_or, drop, length-append, length-drop}
 use lib.Seq.{get_or-append-add, get_or-drop}
 use Rattle.text.proofs.Branches.{and_left, and_right, both_yes}
 use Rattle.model.specs.Shipment.{most_shipments}
@@ -16,8 +16,7 @@ use Rattle.model.specs.Book.{Book}
 use Rattle.model.specs.Sound.{sound}
 use Rattle.memory.specs.Layout.{size}
 use Rattle.memory.specs.Read.{book_in, flags_from, shipments_in, sound_in, read_book}
-use Rattle.write.specs.Written.{put_at, written}
-use Rattle.write.proofs.Putting.{put_first, put_length}
+use Rattle.write.specs.Written.{written}
 use Rattle.store.specs.Stored.{form, stored}
 use Rattle.store.specs.Unstored.{Stores, Loads}
 use Rattle.store.specs.declared.load.Loading.TheVariants.{Loaded, Refused}
@@ -113,16 +112,16 @@ module _ (bytes lent : List ℕ) where
       as_long = refl;
     }
 
-    pub loads : {after : List ℕ} → ((j : ℕ) → get_or bytes j 0 < 256) → sound_in m' ≡ true → length m' ≡ size → size ≤ length lent → after ≡ put_at 0 m' lent → Loads lent bytes Loaded after
+    pub loads : {after : List ℕ} → ((j : ℕ) → get_or bytes j 0 < 256) → sound_in m' ≡ true → length m' ≡ size → size ≤ length lent → after ≡ written m' lent → Loads lent bytes Loaded after
     loads {after} small is_sound long room put =
-        let holds = ap read_book (put ∙ put_first m' lent) ∙ read_before m' is_sound (drop (length m') lent) in
+        let holds = ap read_book put ∙ read_before m' is_sound (drop (length m') lent) in
         record {
           loaded = λ book is enough. (refl, holds ∙ ap some (same book is));
           too_short = λ book is short. absurd (omega arith);
           not_stored = λ none. absurd (none (book_in m') stores);
           refused = λ number told. absurd (otherwise told);
-          behind = λ j from. ap (λ (l : List ℕ). get_or l j 0) (put ∙ put_first m' lent) ∙ kept j from;
-          as_long = ap length put ∙ put_length 0 m' lent (omega arith);
+          behind = λ j from. ap (λ (l : List ℕ). get_or l j 0) put ∙ kept j from;
+          as_long = ap length put ∙ omega (arith, length-append m' (drop (length m') lent), length-drop (length m') lent);
         }
       where
         stores : Stores bytes (book_in m')
@@ -139,3 +138,9 @@ module _ (bytes lent : List ℕ) where
             let place : j ≡ length m' + (j - length m') = omega arith in
             ap (λ (i : ℕ). get_or (written m' lent) i 0) place ∙ get_or-append-add m' (drop (length m') lent) (j - length m') 0
             ∙ get_or-drop (length m') lent (j - length m') 0 ∙ ap (λ (i : ℕ). get_or lent i 0) (sym place)
+
+-- by which loading answers
+pub ruleset loading = (refuses_broken, refuses_unsound, refuses_short, loads)
+
+-- and by which unpacking goes on
+pub ruleset by_contents = (contents_room, no_contents, with_contents)

@@ -1,12 +1,12 @@
 -- A head put into memory, and an order stored in its columns: that head or that row is the one given, and nothing else moves.
 -- Assumes nothing.
 use mathlib.Core.Path.{◌≡◌, refl, sym, ap, subst, ◌∙◌}
-use mathlib.Core.List.{List}
+use mathlib.Core.List.{List, [], ◌∷◌, ◌++◌}
 use Prim.Native.Nat.{ℕ, zero, suc, ◌+◌, ◌^◌, ◌≤◌, ◌<◌}
 use native.Mathlib.Numerals.{add-one}
 use native.Mathlib.Omega.{arith}
 use lib.ListN.{length, get_or, set, take, drop}
-use lib.Seq.{take_all, take_at}
+use lib.Seq.{length-take-le, take_all, take_at, take-suc}
 use Rattle.model.specs.Shipment.{most_shipments, most_rows}
 use Rattle.model.specs.Calls.{with_state}
 use Rattle.memory.specs.Number.{number_at, with_number}
@@ -20,8 +20,21 @@ use Rattle.memory.proofs.Numbers.{number_alike, stored_is_read}
 use Rattle.memory.proofs.Parts.{head_byte_only, amount_cell, fee_cell, remainder_cell, cell_number_only}
 use Rattle.memory.proofs.RowLaws.{row_by, code_stored}
 use Rattle.write.specs.Written.{put_at}
-use Rattle.write.proofs.Putting.{from_put, put_none, byte_more}
+use Rattle.write.proofs.Putting.{from_put, put_length, put_none, put_one, put_then}
 use Rattle.store.specs.Inner.Unpack.{OrderStored}
+
+-- one byte more of a text that is put there
+byte_more : (at i : ℕ) (text m : List ℕ) → i < length text → at + length text ≤ length m
+    → set (put_at at (take i text) m) (at + i) (get_or text i 0) ≡ put_at at (take (i + 1) text) m
+byte_more at i text m h fits =
+    let byte : List ℕ = get_or text i 0 ∷ [] in
+    let long = length-take-le i text (omega arith) in
+    let same = put_length at (take i text) m (omega arith) in
+    let joined : take (i + 1) text ≡ take i text ++ byte = ap (λ (k : ℕ). take k text) (add-one i) ∙ take-suc text i 0 h in
+    put_one (at + i) (get_or text i 0) (put_at at (take i text) m) (omega arith)
+    ∙ ap (λ (k : ℕ). put_at (at + k) byte (put_at at (take i text) m)) (sym long)
+    ∙ put_then at (take i text) byte m (omega arith)
+    ∙ ap (λ (s : List ℕ). put_at at s m) (sym joined)
 
 -- what each byte stored in a part of the memory leaves alone, a text put there does
 module _ (heads rows : ℕ → Type 0) (at : ℕ) (text m : List ℕ) (byte : (l : List ℕ) (q v : ℕ) → q < length text → Only heads rows l (set l (at + q) v)) where

@@ -1,91 +1,35 @@
 -- Raw bytes put piece by piece: orders, bodies, the contents table.
 -- Assumes nothing.
-use mathlib.Core.Path.{◌≡◌, refl, sym, ◌∙◌, ap}
+use mathlib.Core.Path.{◌≡◌, refl, ap, ◌∙◌}
 use mathlib.Core.Bool.{true}
 use mathlib.Core.List.{List, [], ◌∷◌, ◌++◌, append_assoc}
-use Prim.Native.Nat.{ℕ, zero, suc, ◌+◌, ◌*◌, ◌-◌, ◌≤◌, ◌<◌}
+use Prim.Native.Nat.{ℕ, zero, suc, ◌+◌, ◌*◌, ◌-◌, ◌/◌, ◌≤◌, ◌<◌}
+use native.Mathlib.Nat.{div-div-eq-div-mul}
+use native.Mathlib.Numerals.{add-one}
 use native.Mathlib.Omega.{arith}
 use borrow.Author.Tests.{leb-true}
+use mir.Syntax.{w32}
 use lib.Dec.{leb}
-use lib.ListN.{length, get_or, take, drop, set, length-drop}
-use lib.Seq.{length-take-le, get_or-take, get_or-drop, take_all, take-add, drop-cons}
+use lib.ListN.{length, get_or, take, drop}
+use lib.Seq.{drop-cons}
+use Rattle.std.specs.Int.{to_le_bytes}
 use Rattle.model.specs.Shipment.{most_shipments, most_rows}
 use Rattle.model.specs.Book.{rows_in}
-use Rattle.memory.specs.Layout.{row_size, amount_at, fee_at, remainder_at, code_at, size, head_bytes, row_bytes, IsHead, IsRow}
+use Rattle.memory.specs.Layout.{amount_at, fee_at, remainder_at, code_at, size, head_bytes, row_bytes}
 use Rattle.memory.specs.Read.{orders_at, shipments_from, flags_from, shipments_in, book_in, sound_in}
 use Rattle.memory.specs.Inner.Enter.{bytes_of}
 use Rattle.sound.proofs.ReadLaws.{shipments_many, rows_next}
 use Rattle.text.proofs.Branches.{and_left, and_right}
 use Rattle.model.proofs.StaysSound.{book_in_order}
-use Rattle.write.specs.Written.{put_at, written}
-use Rattle.write.proofs.Putting.{Left, all_left, piece_fits, piece_put, put_none, put_then, byte_more, whole_left}
+use Rattle.write.specs.Writer.{HasRoom, Writes}
+use Rattle.write.specs.declared.Writer.{Writer}
+use Rattle.write.proofs.Pieces.{room_first, Left, all_left, left_behind, none_left}
 use Rattle.store.specs.Stored.{form}
 use Rattle.store.specs.Inner.Raw.{raw_orders, raw_bodies, raw_length, raw_contents, raw_stored}
 
--- orders
-pub record OrdersPut (output m : List ℕ) (from k n place : ℕ) (now : List ℕ) (done : ℕ) : Type 0 where
-  pub far : done ≤ n
-  pub left : Left from (raw_orders m k n) output place (raw_orders m (k + done) (n - done)) now
-
-pub orders_begun : (output m : List ℕ) (from k n : ℕ) → from + length (raw_orders m k n) ≤ length output → OrdersPut output m from k n from output 0
-orders_begun output m from k n fits =
-    let here : k + 0 ≡ k = omega arith in
-    let all : n - 0 ≡ n = omega arith in
-    record { far = omega arith; left = rw (here, all) (all_left from (raw_orders m k n) output fits) }
-
-module _ {output m : List ℕ} {from k n place : ℕ} {now : List ℕ} {done : ℕ} (so_far : OrdersPut output m from k n place now done) (more : done < n)
-    (row_long : IsRow (row_bytes m (k + done))) where
-  next_order : Left from (raw_orders m k n) output place (row_bytes m (k + done) ++ raw_orders m (k + (done + 1)) (n - (done + 1))) now
-  unfolding raw_orders
-  next_order =
-      let left : n - done ≡ suc (n - (done + 1)) = omega arith in
-      let row : k + (done + 1) ≡ suc (k + done) = omega arith in
-      rw row (rw left at so_far.left)
-
-  pub order_fits : place + row_size ≤ length now
-  order_fits =
-      let fits = piece_fits (row_bytes m (k + done)) (raw_orders m (k + (done + 1)) (n - (done + 1))) next_order in
-      omega (arith, row_long)
-
-  pub orders_on : {place' : ℕ} {now' : List ℕ} → place' ≡ place + row_size → now' ≡ put_at place (row_bytes m (k + done)) now
-      → OrdersPut output m from k n place' now' (done + 1)
-  orders_on is_place is_now = record {
-    far = omega arith;
-    left =
-        piece_put (row_bytes m (k + done)) (raw_orders m (k + (done + 1)) (n - (done + 1))) next_order
-        (is_place ∙ ap (λ (j : ℕ). place + j) (sym row_long)) is_now;
-  }
-
--- some bytes of a text, put byte after byte
-module _ (at : ℕ) (output text : List ℕ) (from : ℕ) where
-  abbrev pub bytes_put : ℕ → List ℕ
-  bytes_put zero = set output at (get_or text from 0)
-  bytes_put (suc n) = set (bytes_put n) (at + suc n) (get_or text (from + suc n) 0)
-
-  pub bytes_put_lem : (n : ℕ) → from + suc n ≤ length text → at + suc n ≤ length output → bytes_put n ≡ put_at at (take (suc n) (drop from text)) output
-  bytes_put_lem n within fits = go n (omega arith) ∙ ap (λ (l : List ℕ). put_at at l output) (take_all (n + 1) part (omega (arith, long)))
-    where
-      part : List ℕ
-      part = take (suc n) (drop from text)
-
-      long : length part ≡ suc n
-      long = let left = length-drop from text in length-take-le (suc n) (drop from text) (omega arith)
-
-      byte : (j : ℕ) → j ≤ n → get_or part j 0 ≡ get_or text (from + j) 0
-      byte j upto = get_or-take (suc n) (drop from text) j 0 (omega arith) ∙ get_or-drop from text j 0
-
-      more : (j : ℕ) → j ≤ n → set (put_at at (take j part) output) (at + j) (get_or text (from + j) 0) ≡ put_at at (take (j + 1) part) output
-      more j upto =
-          ap (λ (b : ℕ). set (put_at at (take j part) output) (at + j) b) (sym (byte j upto)) ∙ byte_more at j part output (omega (arith, long)) (omega (arith, long))
-
-      go : (j : ℕ) → j ≤ n → bytes_put j ≡ put_at at (take (j + 1) part) output
-      go zero upto =
-          let here : at + 0 ≡ at = omega arith in
-          let first : from + 0 ≡ from = omega arith in
-          (λ t. set (sym (put_none at output) t) (sym here t) (get_or text (sym first t) 0)) ∙ more 0 upto
-      go (suc j) upto =
-          let next : j + 1 ≡ suc j = omega arith in
-          ap (λ (l : List ℕ). set l (at + suc j) (get_or text (from + suc j) 0)) (go j (omega arith) ∙ ap (λ (i : ℕ). put_at at (take i part) output) next) ∙ more (suc j) upto
+-- a number of four bytes
+pub four_bytes : (n : ℕ) → to_le_bytes w32 n ≡ bytes_of 4 n
+four_bytes n = rw (div-div-eq-div-mul (n / 256) 256 256, div-div-eq-div-mul n 256 65_536, div-div-eq-div-mul n 256 256) refl
 
 -- some bytes of memory, one by one
 module _ (m : List ℕ) (at : ℕ) where
@@ -117,166 +61,108 @@ gathered m k few enough =
     let remainder = bytes_from_lem m (remainder_at k) 1 (omega arith) in
     λ i. amount i ++ (code i ++ (fee i ++ remainder i))
 
--- a head, eleven bytes after eleven
-pub eleven_more : (at i : ℕ) (head output : List ℕ) → IsHead head → at + length head ≤ length output → i < 6
-    → put_at (at + 11 * i) (take 11 (drop (11 * i) head)) (put_at at (take (11 * i) head) output) ≡ put_at at (take (11 * (i + 1)) head) output
-eleven_more at i head output is_head fits more =
-    let first = take (11 * i) head in
-    let second = take 11 (drop (11 * i) head) in
-    let front : length first ≡ 11 * i = length-take-le (11 * i) head (omega (arith, is_head)) in
-    let left = length-drop (11 * i) head in
-    let eleven : length second ≡ 11 = length-take-le 11 (drop (11 * i) head) (omega (arith, is_head)) in
-    let next : 11 * i + 11 ≡ 11 * (i + 1) = omega arith in
-    ap (λ (j : ℕ). put_at (at + j) second (put_at at first output)) (sym front)
-    ∙ put_then at first second output (omega (arith, is_head))
-    ∙ ap (λ (l : List ℕ). put_at at l output) (sym (take-add (11 * i) 11 head) ∙ ap (λ (j : ℕ). take j head) next)
+-- orders: those from row r on are left
+pub record OrdersPut (m : List ℕ) (start : Writer) (k n : ℕ) (now : Writer) (r : ℕ) : Type 0 where
+  pub left : Left (raw_orders m k n) start (raw_orders m r (k + n - r)) now
 
--- what was put when nothing is left
-pub all_put : {from : ℕ} {whole output now : List ℕ} {place : ℕ} → Left from whole output place [] now → (place ≡ from + length whole) × (now ≡ put_at from whole output)
-all_put {from} {whole} {output} {now} {place} left = let there = left.place in (omega arith, sym (put_none place now) ∙ left.makes)
+pub orders_begun : {m : List ℕ} {start : Writer} {k n : ℕ} → HasRoom (raw_orders m k n) start → OrdersPut m start k n start k
+orders_begun {k = k} {n = n} room = let all : k + n - k ≡ n = omega arith in record { left = rw all (all_left room) }
 
-pub orders_done : {output m : List ℕ} {from k n place : ℕ} {now : List ℕ} {done : ℕ} → OrdersPut output m from k n place now done → n ≤ done
-    → (place ≡ from + length (raw_orders m k n)) × (now ≡ put_at from (raw_orders m k n) output)
+module _ {m : List ℕ} {start : Writer} {k n : ℕ} {now : Writer} {r : ℕ} (so_far : OrdersPut m start k n now r) (more : r < k + n) where
+  abbrev others : List ℕ
+  others = raw_orders m (suc r) (k + n - suc r)
+
+  next_order : Left (raw_orders m k n) start (row_bytes m r ++ others) now
+  unfolding raw_orders
+  next_order = let one : k + n - r ≡ suc (k + n - suc r) = omega arith in rw one at so_far.left
+
+  pub order_room : HasRoom (row_bytes m r) now
+  order_room = room_first (row_bytes m r) others next_order.room
+
+  pub orders_on : {next : Writer} → Writes (row_bytes m r) now next → OrdersPut m start k n next (r + 1)
+  orders_on put = rw add-one (record { left = left_behind (row_bytes m r) others next_order put })
+
+pub orders_done : {m : List ℕ} {start : Writer} {k n : ℕ} {now : Writer} {r : ℕ} → OrdersPut m start k n now r → k + n ≤ r → Writes (raw_orders m k n) start now
 unfolding raw_orders
-orders_done {n = n} {done = done} so_far end = let far = so_far.far in let none : n - done ≡ 0 = omega arith in all_put (rw none at so_far.left)
+orders_done {k = k} {n = n} {r = r} so_far end = let none : k + n - r ≡ 0 = omega arith in none_left (rw none at so_far.left)
 
 -- bodies
-pub record BodiesPut (output m : List ℕ) (from n place k : ℕ) (now : List ℕ) (i : ℕ) : Type 0 where
-  pub far : i ≤ n
+pub record BodiesPut (m : List ℕ) (start : Writer) (n k : ℕ) (now : Writer) (i : ℕ) : Type 0 where
   pub few : k + rows_in (shipments_from m i k (n - i)) ≤ most_rows
-  pub left : Left from (raw_bodies m 0 0 n) output place (raw_bodies m i k (n - i)) now
+  pub left : Left (raw_bodies m 0 0 n) start (raw_bodies m i k (n - i)) now
 
-pub bodies_begun : (output m : List ℕ) (from n : ℕ) → rows_in (shipments_from m 0 0 n) ≤ most_rows → from + length (raw_bodies m 0 0 n) ≤ length output
-    → BodiesPut output m from n from 0 output 0
-bodies_begun output m from n few fits =
+pub bodies_begun : {m : List ℕ} {start : Writer} {n : ℕ} → rows_in (shipments_from m 0 0 n) ≤ most_rows → HasRoom (raw_bodies m 0 0 n) start
+    → BodiesPut m start n 0 start 0
+bodies_begun {n = n} few room =
     let all : n - 0 ≡ n = omega arith in
-    record { far = omega arith; few = rw all (omega (arith, few)); left = rw all (all_left from (raw_bodies m 0 0 n) output fits) }
+    record { few = rw all (omega (arith, few)); left = rw all (all_left room) }
 
-module _ {output m : List ℕ} {from n place k : ℕ} {now : List ℕ} {i : ℕ} (so_far : BodiesPut output m from n place k now i) (more : i < n) where
+module _ {m : List ℕ} {start : Writer} {n k : ℕ} {now : Writer} {i : ℕ} (so_far : BodiesPut m start n k now i) (more : i < n) where
   abbrev body : List ℕ
   body = head_bytes m i ++ raw_orders m k (orders_at m i)
 
-  one_left : n - i ≡ suc (n - (i + 1))
-  one_left = omega arith
+  one : n - i ≡ suc (n - suc i)
+  one = omega arith
 
-  next_place : i + 1 ≡ suc i
-  next_place = omega arith
-
-  rows_left : k + (orders_at m i + rows_in (shipments_from m (suc i) (k + orders_at m i) (n - (i + 1)))) ≤ most_rows
-  rows_left = let next = rows_next m i k (n - (i + 1)) in let few = rw one_left at so_far.few in omega arith
+  rows_left : k + orders_at m i + rows_in (shipments_from m (suc i) (k + orders_at m i) (n - suc i)) ≤ most_rows
+  rows_left = let next = rows_next m i k (n - suc i) in let few = rw one at so_far.few in omega arith
 
   pub body_rows : k + orders_at m i ≤ most_rows
   body_rows = let rows = rows_left in omega arith
 
-  next_body : Left from (raw_bodies m 0 0 n) output place (body ++ raw_bodies m (suc i) (k + orders_at m i) (n - (i + 1))) now
+  next_body : Left (raw_bodies m 0 0 n) start (body ++ raw_bodies m (suc i) (k + orders_at m i) (n - suc i)) now
   unfolding raw_bodies
-  next_body =
-      rw (append_assoc (head_bytes m i) (raw_orders m k (orders_at m i)) (raw_bodies m (suc i) (k + orders_at m i) (n - (i + 1)))) (rw one_left at so_far.left)
+  next_body = rw (append_assoc (head_bytes m i) (raw_orders m k (orders_at m i)) (raw_bodies m (suc i) (k + orders_at m i) (n - suc i))) (rw one at so_far.left)
 
-  pub body_fits : place + length body ≤ length now
-  body_fits = piece_fits body (raw_bodies m (suc i) (k + orders_at m i) (n - (i + 1))) next_body
+  pub body_room : HasRoom body now
+  body_room = room_first body (raw_bodies m (suc i) (k + orders_at m i) (n - suc i)) next_body.room
 
-  pub bodies_on : {place' k' : ℕ} {now' : List ℕ} → place' ≡ place + length body → now' ≡ put_at place body now → k' ≡ k + orders_at m i
-      → BodiesPut output m from n place' k' now' (i + 1)
-  bodies_on is_place is_now is_k =
-      let rows = rows_left in
-      rw (is_k, next_place) (record {
-        far = omega arith;
-        few = let same : n - suc i ≡ n - (i + 1) = omega arith in rw same (omega arith);
-        left = let same : n - suc i ≡ n - (i + 1) = omega arith in rw same (piece_put body (raw_bodies m (suc i) (k + orders_at m i) (n - (i + 1))) next_body is_place is_now);
-      })
+  pub bodies_on : {k' : ℕ} {next : Writer} → k' ≡ k + orders_at m i → Writes body now next → BodiesPut m start n k' next (i + 1)
+  bodies_on is_k put =
+      rw (is_k, add-one) (record { few = rows_left; left = left_behind body (raw_bodies m (suc i) (k + orders_at m i) (n - suc i)) next_body put })
 
-pub bodies_done : {output m : List ℕ} {from n place k : ℕ} {now : List ℕ} {i : ℕ} → BodiesPut output m from n place k now i → n ≤ i
-    → now ≡ put_at from (raw_bodies m 0 0 n) output
+pub bodies_done : {m : List ℕ} {start : Writer} {n k : ℕ} {now : Writer} {i : ℕ} → BodiesPut m start n k now i → n ≤ i → Writes (raw_bodies m 0 0 n) start now
 unfolding raw_bodies
-bodies_done {n = n} {i = i} so_far end = let far = so_far.far in let none : n - i ≡ 0 = omega arith in (all_put (rw none at so_far.left)).1
+bodies_done {n = n} {i = i} so_far end = let none : n - i ≡ 0 = omega arith in none_left (rw none at so_far.left)
 
 -- the contents table
-pub record ContentsPut (output m : List ℕ) (from n place start : ℕ) (now : List ℕ) (i : ℕ) : Type 0 where
-  pub far : i ≤ n
-  pub small : start ≤ 2 + 8 * n + i * 800_000
-  pub left : Left from (raw_contents m 0 (2 + 8 * n) n) output place (raw_contents m i start (n - i)) now
+pub record ContentsPut (m : List ℕ) (start : Writer) (n place : ℕ) (now : Writer) (i : ℕ) : Type 0 where
+  pub small : place ≤ 2 + 8 * n + i * 800_000
+  pub left : Left (raw_contents m 0 (2 + 8 * n) n) start (raw_contents m i place (n - i)) now
 
-pub contents_begun : (output m : List ℕ) (from n : ℕ) {start : ℕ} → start ≡ 2 + 8 * n → from + length (raw_contents m 0 (2 + 8 * n) n) ≤ length output
-    → ContentsPut output m from n from start output 0
-contents_begun output m from n is fits =
-    let all : n - 0 ≡ n = omega arith in
-    rw is (record { far = omega arith; small = omega arith; left = rw all (all_left from (raw_contents m 0 (2 + 8 * n) n) output fits) })
+pub contents_begun : {m : List ℕ} {start : Writer} {n place : ℕ} → place ≡ 2 + 8 * n → HasRoom (raw_contents m 0 (2 + 8 * n) n) start
+    → ContentsPut m start n place start 0
+contents_begun {n = n} is room = let all : n - 0 ≡ n = omega arith in rw is (record { small = omega arith; left = rw all (all_left room) })
 
-module _ {output m : List ℕ} {from n place start : ℕ} {now : List ℕ} {i : ℕ} (so_far : ContentsPut output m from n place start now i) (more : i < n) where
-  abbrev entry : List ℕ
-  entry = bytes_of 4 start ++ bytes_of 4 (raw_length m i)
+module _ {m : List ℕ} {start : Writer} {n place : ℕ} {now : Writer} {i : ℕ} (so_far : ContentsPut m start n place now i) (more : i < n) where
+  abbrev entry : ℕ → List ℕ
+  entry long = bytes_of 4 place ++ bytes_of 4 long
 
-  next_entry : Left from (raw_contents m 0 (2 + 8 * n) n) output place (entry ++ raw_contents m (suc i) (start + raw_length m i) (n - (i + 1))) now
+  next_entry : Left (raw_contents m 0 (2 + 8 * n) n) start (entry (raw_length m i) ++ raw_contents m (suc i) (place + raw_length m i) (n - suc i)) now
   unfolding raw_contents
   next_entry =
-      let left : n - i ≡ suc (n - (i + 1)) = omega arith in
-      rw (append_assoc (bytes_of 4 start) (bytes_of 4 (raw_length m i)) (raw_contents m (suc i) (start + raw_length m i) (n - (i + 1)))) (rw left at so_far.left)
+      let one : n - i ≡ suc (n - suc i) = omega arith in
+      rw (append_assoc (bytes_of 4 place) (bytes_of 4 (raw_length m i)) (raw_contents m (suc i) (place + raw_length m i) (n - suc i))) (rw one at so_far.left)
 
-  pub entry_fits_lem : place + 8 ≤ length now
-  entry_fits_lem = piece_fits entry (raw_contents m (suc i) (start + raw_length m i) (n - (i + 1))) next_entry
+  module _ {long : ℕ} (is : long ≡ raw_length m i) where
+    pub entry_room : HasRoom (entry long) now
+    entry_room = rw is (room_first (entry (raw_length m i)) (raw_contents m (suc i) (place + raw_length m i) (n - suc i)) next_entry.room)
 
-  pub contents_on : {long place' : ℕ} {now' : List ℕ} → long ≡ raw_length m i → long < 800_000 → place' ≡ place + 8 → now' ≡ put_at place (bytes_of 4 start ++ bytes_of 4 long) now
-      → ContentsPut output m from n place' (start + long) now' (i + 1)
-  contents_on {long} is short is_place is_now =
-      let next : i + 1 ≡ suc i = omega arith in
-      let same : n - suc i ≡ n - (i + 1) = omega arith in
-      let small = so_far.small in
-      record {
-        far = omega arith;
-        small = omega arith;
-        left = rw (next, is, same) (piece_put entry (raw_contents m (suc i) (start + raw_length m i) (n - (i + 1))) next_entry is_place
-            (is_now ∙ ap (λ (l : ℕ). put_at place (bytes_of 4 start ++ bytes_of 4 l) now) is));
-      }
+    pub contents_on : long < 800_000 → {next : Writer} → Writes (entry long) now next → ContentsPut m start n (place + long) next (i + 1)
+    contents_on short put = record {
+      small = let small = so_far.small in omega arith;
+      left = rw (add-one, is) (left_behind (entry (raw_length m i)) (raw_contents m (suc i) (place + raw_length m i) (n - suc i)) next_entry (rw is at put));
+    }
 
-pub contents_done : {output m : List ℕ} {from n place start : ℕ} {now : List ℕ} {i : ℕ} → ContentsPut output m from n place start now i → n ≤ i
-    → (place ≡ from + length (raw_contents m 0 (2 + 8 * n) n)) × (now ≡ put_at from (raw_contents m 0 (2 + 8 * n) n) output)
+pub contents_done : {m : List ℕ} {start : Writer} {n place : ℕ} {now : Writer} {i : ℕ} → ContentsPut m start n place now i → n ≤ i
+    → Writes (raw_contents m 0 (2 + 8 * n) n) start now
 unfolding raw_contents
-contents_done {n = n} {i = i} so_far end = let far = so_far.far in let none : n - i ≡ 0 = omega arith in all_put (rw none at so_far.left)
-
--- orders added up, head after head
-pub record Adding (m : List ℕ) (n rows i : ℕ) : Type 0 where
-  pub far : i ≤ n
-  pub small : rows ≤ i * 65_536
-  pub from : ℕ
-  pub left : rows + rows_in (shipments_from m i from (n - i)) ≡ rows_in (shipments_from m 0 0 n)
-
-pub adding_begun : (m : List ℕ) (n : ℕ) → Adding m n 0 0
-adding_begun m n = let all : n - 0 ≡ n = omega arith in record { far = omega arith; small = omega arith; from = 0; left = rw all (omega arith) }
-
-pub adding_on : {m : List ℕ} {n rows i : ℕ} → Adding m n rows i → i < n → {count : ℕ} → count ≡ orders_at m i → count < 65_536 → Adding m n (rows + count) (i + 1)
-adding_on {m} {n} {rows} {i} so_far more is short =
-    let left : n - i ≡ suc (n - (i + 1)) = omega arith in
-    let next : i + 1 ≡ suc i = omega arith in
-    let same : n - suc i ≡ n - (i + 1) = omega arith in
-    let k = so_far.from in
-    let rest = rows_next m i k (n - (i + 1)) in
-    let all = rw left at so_far.left in
-    let small = so_far.small in
-    rw next (record { far = omega arith; small = omega arith; from = k + orders_at m i; left = rw same (omega arith) })
-
-pub adding_done : {m : List ℕ} {n rows i : ℕ} → Adding m n rows i → n ≤ i → rows ≡ rows_in (shipments_from m 0 0 n)
-unfolding shipments_from
-adding_done {n = n} {i = i} so_far end =
-    let far = so_far.far in
-    let none : n - i ≡ 0 = omega arith in
-    let all = rw none at so_far.left in
-    omega arith
+contents_done {n = n} {i = i} so_far end = let none : n - i ≡ 0 = omega arith in none_left (rw none at so_far.left)
 
 -- the whole of a sound book
-abbrev pub whole_of : List ℕ → ℕ → List ℕ
-whole_of m n = (form ∷ n ∷ []) ++ (raw_contents m 0 (2 + 8 * n) n ++ raw_bodies m 0 0 n)
-
-module _ (m : List ℕ) (n : ℕ) (output : List ℕ) (is : n ≡ shipments_in m) where
-  raw_is : whole_of m n ≡ raw_stored m
-  unfolding raw_stored
-  raw_is = λ i. form ∷ is i ∷ (raw_contents m 0 (2 + 8 * is i) (is i) ++ raw_bodies m 0 0 (is i))
-
-  pub book_left : length (raw_stored m) ≤ length output → Left 0 (whole_of m n) output 0 (whole_of m n) output
-  book_left fits = whole_left (whole_of m n) output (rw (sym raw_is) at fits)
-
-  pub book_whole : written (whole_of m n) output ≡ written (raw_stored m) output
-  book_whole = ap (λ (l : List ℕ). written l output) raw_is
+pub raw_is : (m : List ℕ) (n : ℕ) → n ≡ shipments_in m → (form ∷ n ∷ []) ++ (raw_contents m 0 (2 + 8 * n) n ++ raw_bodies m 0 0 n) ≡ raw_stored m
+unfolding raw_stored
+raw_is m n is = λ i. form ∷ is i ∷ (raw_contents m 0 (2 + 8 * is i) (is i) ++ raw_bodies m 0 0 (is i))
 
 pub book_lent : (m : List ℕ) → sound_in m ≡ true → (size ≤ length m) × (shipments_in m ≤ most_shipments)
 unfolding sound_in book_in
@@ -290,3 +176,15 @@ pub book_rows : (m : List ℕ) (n : ℕ) → sound_in m ≡ true → n ≡ shipm
 unfolding sound_in book_in
 book_rows m n h is =
     rw is (book_in_order (book_in m) (and_right (flags_from m 0 (shipments_in m)) _ (and_right (leb size (length m)) _ h))).rows_fit
+
+-- by which orders are put one after the other
+pub ruleset orders = (orders_begun, order_room, orders_on, orders_done)
+
+-- bodies
+pub ruleset bodies = (bodies_begun, body_rows, body_room, bodies_on, bodies_done)
+
+-- the entries of the contents table
+pub ruleset contents = (contents_begun, entry_room, contents_on, contents_done)
+
+-- and a whole book
+pub ruleset whole_book = (raw_is, book_rows, book_lent)

@@ -254,3 +254,6 @@ module _ {bytes : List ℕ} {n : ℕ} {l m : List ℕ} {i at k : ℕ} (so_far : 
             flags_same m m' 0 n (λ j from below. heads j) ∙ ap (λ (j : ℕ). flags_from m 0 j) (sym end)
             ∙ sym (and_yes (flags_from m 0 i)) ∙ ap (λ (j : ℕ). flags_from m 0 i && flags_from_bytes bytes at j) (sym none) ∙ so_far.flags;
       }
+
+-- by which bodies are unpacked one after the other
+pub ruleset unpacking = (unpacking_begun, unpacking_on, body_room, bodies_refused, bodies_unpacked)

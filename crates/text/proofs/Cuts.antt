@@ -9,20 +9,22 @@ use native.Mathlib.Nat.{add-zero, le_refl}
 use native.Mathlib.Numerals.{add-one}
 use native.Mathlib.Omega.{arith}
 use lib.Dec.{eqb}
-use lib.ListN.{length, get_or, take, drop, set, replicate, length-append}
-use lib.Seq.{take_all, take-length, take_at, take-append-le, take-append-add, take-suc-set, take-set-le, take-suc, set_at, length-take-le, append_snoc}
-use Rattle.text.specs.Fields.{cuts_from}
+use mir.Val.{bool_byte}
+use lib.ListN.{length, get_or, take, drop, set, replicate, length-append, get_or-append}
+use lib.Seq.{take_all, take_at, take-append-le, take-append-add, take-suc-set, take-set-le, length-take-le, append_snoc}
+use Rattle.std.proofs.lemmas.List.{get_or-take}
+use Rattle.text.specs.Fields.{cuts_from, cut_table, cut_count}
 use Rattle.text.proofs.Places.{from_here}
 
 -- one byte more is looked at: its place is stored behind the n cuts, and counted where it is a cut
 pub note_byte : (separator : ℕ) (s table : List ℕ) (i n : ℕ) → i < length s → n < length table
-    → take (n + cond (eqb (get_or s i 0) separator) 1 0) (set table n i) ++ cuts_from separator (i + 1) (drop (i + 1) s)
+    → take (n + bool_byte (eqb (get_or s i 0) separator)) (set table n i) ++ cuts_from separator (i + 1) (drop (i + 1) s)
     ≡ take n table ++ cuts_from separator i (drop i s)
 unfolding cuts_from
 note_byte separator s table i n h k = rw (from_here s i h) (go (eqb (get_or s i 0) separator) (cuts_from separator (i + 1) (drop (i + 1) s)))
   where
     go : (hit : Bool) (rest : List ℕ)
-        → take (n + cond hit 1 0) (set table n i) ++ rest ≡ take n table ++ cond hit (i ∷ rest) rest
+        → take (n + bool_byte hit) (set table n i) ++ rest ≡ take n table ++ cond hit (i ∷ rest) rest
     go true rest = rw (add-one, take-suc-set table n i k, append_snoc (take n table) i rest)
     go false rest = rw (add-zero, take-set-le n table n i (le_refl n))
 
@@ -59,21 +61,26 @@ padded n l = go (dec_le n (length l))
         rw (m, take_all n l (omega arith), ← take_replicate (n - length l) n (omega arith))
         (sym (ap (λ (k : ℕ). take k (l ++ replicate n 0)) s ∙ take-append-add l (replicate n 0) (n - length l)))
 
--- zeros are put from the end backwards: one place more
-pub clear_back : (n : ℕ) (t : List ℕ) (i : ℕ) → 0 < i → i ≤ n → i ≤ length t
-    → set (take i t ++ replicate (n - i) 0) (i - 1) 0 ≡ take (i - 1) t ++ replicate (n - (i - 1)) 0
-clear_back n t zero h l k = absurd (omega arith)
-clear_back n t (suc i) h l k =
-    let d : suc i - 1 ≡ i = omega arith in
-    let m : n - i ≡ suc (n - suc i) = omega arith in
-    rw (d, m, take-suc t i 0, append_snoc (take i t) (get_or t i 0) (replicate (n - suc i) 0))
-    (set_at (take i t) (get_or t i 0) (replicate (n - suc i) 0) 0 i (length-take-le i t (omega arith)))
-
-pub one_at_most : (t : Bool) → cond t 1 0 ≤ 1
+pub one_at_most : (t : Bool) → bool_byte t ≤ 1
 one_at_most true = omega arith
 one_at_most false = omega arith
 
-pub clear_none : (t : List ℕ) → t ≡ take (length t) t ++ replicate (length t - length t) 0
-clear_none t =
-    let z : length t - length t ≡ 0 = omega arith in
-    sym (rw (z, take-length t) (append-nil t))
+-- a cut is a place of the text
+cuts_within : (separator a k : ℕ) (s : List ℕ) → k < length (cuts_from separator a s) → get_or (cuts_from separator a s) k 0 < a + length s
+unfolding cuts_from
+cuts_within separator a k [] h = absurd (omega arith)
+cuts_within separator a k (b ∷ s) h = go (eqb b separator) k h (λ j. cuts_within separator (a + 1) j s)
+  where
+    go : (t : Bool) (k : ℕ) → let cs = cuts_from separator (a + 1) s in k < length (cond t (a ∷ cs) cs)
+        → ((j : ℕ) → j < length cs → get_or cs j 0 < a + 1 + length s) → get_or (cond t (a ∷ cs) cs) k 0 < a + suc (length s)
+    go true zero h r = omega arith
+    go true (suc k) h r = omega (arith, r k (omega arith))
+    go false k h r = omega (arith, r k h)
+
+-- so is one that a table holds
+pub cut_within : (room separator k : ℕ) (s : List ℕ) → k < cut_count room separator s → (k < room) × (get_or (cut_table room separator s) k 0 < length s)
+unfolding cut_table cut_count
+cut_within room separator k s h =
+    let here = cuts_within separator 0 k s (omega arith) in
+    let cs = cuts_from separator 0 s in
+    (omega arith, rw (get_or-take room (cs ++ replicate room 0) k 0 (omega arith), get_or-append cs (replicate room 0) 0 k (omega arith)) (omega (arith, here)))

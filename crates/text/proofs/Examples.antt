@@ -5,11 +5,11 @@ use mathlib.Core.Bool.{true, false}
 use mathlib.Core.List.{List, [], ◌∷◌, map}
 use Prim.Native.Nat.{ℕ}
 use lib.ListN.{replicate}
-use Rattle.text.specs.Bytes.{digit, letter, has_byte}
+use Rattle.text.specs.Bytes.{digit, letter}
 use Rattle.text.specs.Number.{number_after, number}
 use Rattle.text.specs.Fields.{onto, fields, cuts_from, cut_table, field_by}
 use Rattle.text.specs.Lines.{parted, without_last_end, lines, stray}
-use Rattle.text.specs.declared.number.Number.TheVariants.{Of, Not}
+use Rattle.std.specs.Prelude.{Some, None}
 
 -- @ A Z [ ` a z {
 edges_of_the_letters : map letter (0x40 ∷ 0x41 ∷ 0x5A ∷ 0x5B ∷ 0x60 ∷ 0x61 ∷ 0x7A ∷ 0x7B ∷ []) ≡ false ∷ true ∷ true ∷ false ∷ false ∷ true ∷ true ∷ false ∷ []
@@ -24,7 +24,7 @@ record_numbers : map (number 1 6)
     ∷ (0x30 ∷ 0x30 ∷ 0x30 ∷ 0x30 ∷ 0x30 ∷ 0x30 ∷ 0x31 ∷ [])
     ∷ (0x31 ∷ 0x20 ∷ [])
     ∷ [])
-    ≡ Of 1 ∷ Of 1 ∷ Not ∷ Not ∷ Not ∷ []
+    ≡ Some 1 ∷ Some 1 ∷ None ∷ None ∷ None ∷ []
 unfolding number number_after digit
 record_numbers = refl
 
@@ -32,7 +32,7 @@ record_numbers = refl
 nines : ℕ → List ℕ
 nines n = replicate n 0x39
 
-longest_number : map (number 1 100) (nines 18 ∷ nines 19 ∷ []) ≡ Of 999999999999999999 ∷ Not ∷ []
+longest_number : map (number 1 100) (nines 18 ∷ nines 19 ∷ []) ≡ Some 999999999999999999 ∷ None ∷ []
 unfolding number number_after digit nines
 longest_number = refl
 
@@ -72,5 +72,5 @@ unfolding lines without_last_end parted onto
 left_over = refl
 
 spoiled : map stray ((0x61 ∷ 0x0D ∷ []) ∷ (0x61 ∷ 0x0A ∷ 0x62 ∷ []) ∷ (0x61 ∷ 0x62 ∷ []) ∷ []) ≡ true ∷ true ∷ false ∷ []
-unfolding stray has_byte
+unfolding stray
 spoiled = refl

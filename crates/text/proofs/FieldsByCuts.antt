@@ -1,8 +1,6 @@
 -- The fields of a text, found again by the places of its separators.
 --     field_by_table     field k by the table of the text's own cuts is field k
 --     count_of_fields    there is one field more than there are cuts
---     field_found        the same of what `cut` left and `field` answered
---     so_many_fields     a count short of the table's size tells the number of fields
 -- Assumes nothing.
 use mathlib.Core.Path.{◌≡◌, refl, sym, ◌∙◌, ap}
 use mathlib.Core.Bool.{Bool, true, false, cond}
@@ -10,7 +8,7 @@ use mathlib.Core.List.{List, [], ◌∷◌, ◌++◌}
 use Prim.Native.Nat.{ℕ, zero, suc, min, ◌+◌, ◌-◌, ◌<◌, ◌≤◌}
 use native.Mathlib.Decide.{dec_le, dec_lt}
 use native.Mathlib.Omega.{arith}
-use borrow.Author.Tests.{lt-ltb, le-ltb, eq-eqb, ne_eqb, eqb-true, eqb-false}
+use borrow.Author.Tests.{lt-ltb, le-ltb, ne_eqb}
 use lib.Dec.{eqb, ltb}
 use lib.ListN.{length, get_or, drop, replicate, length-drop, get_or-append, get_or-eq_default}
 use lib.Seq.{take_all, drop-drop, get_or-take}
@@ -133,21 +131,3 @@ module _ (size separator : ℕ) (s : List ℕ) where
       go (no m) =
           rw (lt-ltb (min size (length (cuts separator s))) k (omega arith))
           (sym (no_piece s (cuts separator s) 0 k (omega arith)))
-
-  -- what `cut` left in a table and counted, and the part that `field` then found
-  pub field_found : {table found : List ℕ} {count k : ℕ} → count ≡ cut_count size separator s → table ≡ cut_table size separator s → k < size
-      → found ≡ field_by table count k s → found ≡ get_or (fields separator s) k []
-  field_found {table} {found} {count} {k} counted filled h e = (rw (counted, filled) at e) ∙ field_by_table k h
-
-  -- a count short of the table's size tells the number of fields
-  pub so_many_fields : {count : ℕ} (k : ℕ) → count ≡ cut_count size separator s → k < size → eqb count k ≡ eqb (length (fields separator s)) (suc k)
-  unfolding cut_count
-  so_many_fields {count} k counted h = go (eqb count k) refl
-    where
-      go : (t : Bool) → eqb count k ≡ t → t ≡ eqb (length (fields separator s)) (suc k)
-      go true e =
-          let found = eqb-true count k e in
-          sym (eq-eqb (length (fields separator s)) (suc k) (omega (arith, count_of_fields separator s)))
-      go false e =
-          let other = eqb-false count k e in
-          sym (ne_eqb (length (fields separator s)) (suc k) (omega (arith, count_of_fields separator s)))

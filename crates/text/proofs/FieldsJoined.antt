@@ -27,11 +27,9 @@ neither false u h = (refl, h)
 
 -- a byte that stands nowhere in a text
 pub not_first : (b x : ℕ) (s : List ℕ) → has_byte b (x ∷ s) ≡ false → (eqb x b ≡ false) × (has_byte b s ≡ false)
-unfolding has_byte
 not_first b x s h = neither (eqb x b) (has_byte b s) h
 
 pub in_neither : (b : ℕ) (s t : List ℕ) → has_byte b (s ++ t) ≡ false → (has_byte b s ≡ false) × (has_byte b t ≡ false)
-unfolding has_byte
 in_neither b [] t h = (refl, h)
 in_neither b (x ∷ s) t h =
     let none = neither (eqb x b) (has_byte b (s ++ t)) h in
@@ -69,19 +67,18 @@ module _ (separator : ℕ) where
   Without fs = (k : ℕ) → has_byte separator (get_or fs k []) ≡ false
 
   without_next : (fs : List (List ℕ)) → Without fs → Without ([] ∷ fs)
-  unfolding has_byte
   without_next fs none zero = refl
   without_next fs none (suc k) = none k
 
   without_onto : (b : ℕ) → eqb b separator ≡ false → (fs : List (List ℕ)) → Without fs → Without (onto b fs)
-  unfolding onto has_byte
+  unfolding onto
   without_onto b e [] none zero = rw e
   without_onto b e [] none (suc k) = refl
   without_onto b e (f ∷ fs) none zero = rw e (none 0)
   without_onto b e (f ∷ fs) none (suc k) = none (suc k)
 
   pub fields_without : (s : List ℕ) → Without (fields separator s)
-  unfolding fields has_byte
+  unfolding fields
   fields_without [] k = without_next [] (λ k. refl) k
   fields_without (b ∷ s) k =
       either_way (eqb b separator)
@@ -89,7 +86,6 @@ module _ (separator : ℕ) where
       (λ e. rw e (without_onto b e (fields separator s) (fields_without s) k))
 
   pub without_taken : (n : ℕ) (fs : List (List ℕ)) → Without fs → Without (take n fs)
-  unfolding has_byte
   without_taken zero fs none k = refl
   without_taken (suc n) [] none k = refl
   without_taken (suc n) (f ∷ fs) none zero = none 0

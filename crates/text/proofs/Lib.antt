@@ -5,6 +5,7 @@ pub mod Digits
 pub mod Finding
 pub mod Cuts
 pub mod FieldsByCuts
+pub mod FieldsByTable
 pub mod LineEnds
 pub mod Utf8Laws
 pub mod Utf8Places

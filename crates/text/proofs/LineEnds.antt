@@ -2,58 +2,69 @@
 --     line_here        a line that ends with CR LF, and the lines after it
 --     last_line_here   the line that ends with the text
 -- Assumes nothing.
-use mathlib.Core.Path.{◌≡◌, refl}
-use mathlib.Core.Bool.{Bool, true, false, cond, ◌&&◌}
+use mathlib.Core.Path.{◌≡◌, refl, sym, ap, ◌∙◌}
+use mathlib.Core.Bool.{Bool, true, false, cond, not, ◌&&◌}
 use mathlib.Core.List.{List, [], ◌∷◌}
 use Prim.Native.Nat.{ℕ, suc, ◌+◌, ◌-◌, ◌<◌, ◌≤◌}
-use native.Mathlib.Nat.{add-zero, zero-add, sub-zero}
+use native.Mathlib.Nat.{add-zero, zero-add}
 use native.Mathlib.Omega.{arith}
 use borrow.Author.Tests.{eq-eqb, ne_eqb}
+use denote.Bor.{Bor}
 use lib.Dec.{eqb}
 use lib.ListN.{length, get_or, drop, take, drop_of_length-le, length-drop, get_or-eq_default}
 use lib.Seq.{drop-drop, get_or-drop}
+use lib.Pointwise.{pointwise}
+use Rattle.std.specs.Prelude.{Option, Some, None, MatchOption}
+use Rattle.std.specs.Option.{unwrap_or}
 use Rattle.text.specs.Bytes.{before, part}
 use Rattle.text.specs.Fields.{onto}
 use Rattle.text.specs.Lines.{crlf, parted, without_last_end, line_stop}
-use Rattle.text.proofs.Branches.{both_yes, first_no_lem, second_no}
+use Rattle.text.proofs.Branches.{both_yes, second_no}
 use Rattle.text.proofs.Places.{from_here}
 
--- the end that is dropped
-module _ (s : List ℕ) where
-  no_end : crlf (get_or s (length s - 2) 0) (get_or s (length s - 2 + 1) 0) ≡ false → s ≡ without_last_end s
-  unfolding without_last_end
-  no_end h = rw h
+-- the end that is dropped: `strip_suffix` looks at the last two bytes together, `without_last_end` at each
+and-yes : (t : Bool) → (t && true) ≡ t
+and-yes true = refl
+and-yes false = refl
 
-  pub too_short_to_end : length s < 2 → s ≡ without_last_end s
-  too_short_to_end h =
-      let z : get_or s (length s - 2 + 1) 0 ≡ 0 = get_or-eq_default s 0 {n = length s - 2 + 1} (omega arith) in
-      no_end (second_no (eqb (get_or s (length s - 2) 0) 13) (eqb (get_or s (length s - 2 + 1) 0) 10) (ne_eqb (get_or s (length s - 2 + 1) 0) 10 (omega arith)))
+last_two : (s : List ℕ) → pointwise eqb (drop (length s - 2) s) (13 ∷ 10 ∷ []) ≡ crlf (get_or s (length s - 2) 0) (get_or s (length s - 2 + 1) 0)
+last_two [] = refl
+last_two (b ∷ []) = second_no (eqb b 13) false refl ∙ sym (second_no (eqb b 13) (eqb 0 10) refl)
+last_two (b ∷ c ∷ s) =
+    let t = b ∷ c ∷ s in
+    let n = length t - 2 in
+    let past : drop (n + 1 + 1) t ≡ [] = drop_of_length-le t (omega arith) in
+    rw (from_here t n (omega arith), from_here t (n + 1) (omega arith), past) (ap (λ u. eqb (get_or t n 0) 13 && u) (and-yes (eqb (get_or t (n + 1) 0) 10)))
 
-  pub no_cr_at_end : (get_or s (length s - 2) 0 ≡ 13 → ⊥) → s ≡ without_last_end s
-  no_cr_at_end h = no_end (first_no_lem (eqb (get_or s (length s - 2) 0) 13) (eqb (get_or s (length s - 2 + 1) 0) 10) (ne_eqb (get_or s (length s - 2) 0) 13 h))
+pub end_stripped : (s : Bor (List ℕ)) (r : Option (Bor (List ℕ)))
+    → MatchOption r (pointwise eqb (drop (length s.now - 2) s.now) (13 ∷ 10 ∷ []) ≡ false)
+    (λ x. (pointwise eqb (drop (length s.now - 2) s.now) (13 ∷ 10 ∷ []) ≡ true) × (x.now ≡ take (length s.now - 2) s.now) × (length x.now + 2 ≡ length s.now))
+    → (unwrap_or r s).now ≡ without_last_end s.now
+unfolding without_last_end
+end_stripped s None h = rw (sym (last_two s.now) ∙ h)
+end_stripped s (Some x) h = rw (sym (last_two s.now) ∙ h.0) h.1
 
-  pub no_lf_at_end : (get_or s (length s - 2 + 1) 0 ≡ 10 → ⊥) → s ≡ without_last_end s
-  no_lf_at_end h = no_end (second_no (eqb (get_or s (length s - 2) 0) 13) (eqb (get_or s (length s - 2 + 1) 0) 10) (ne_eqb (get_or s (length s - 2 + 1) 0) 10 h))
+-- a text whose last byte is no LF loses none, and no shorter one than CR LF does
+pub no_lf_at_end : (s : List ℕ) → (get_or s (length s - 2 + 1) 0 ≡ 10 → ⊥) → s ≡ without_last_end s
+unfolding without_last_end
+no_lf_at_end s h = rw (second_no (eqb (get_or s (length s - 2) 0) 13) (eqb (get_or s (length s - 2 + 1) 0) 10) (ne_eqb (get_or s (length s - 2 + 1) 0) 10 h))
 
-  pub end_dropped : get_or s (length s - 2) 0 ≡ 13 → get_or s (length s - 2 + 1) 0 ≡ 10 → part 0 (length s - 2) s ≡ without_last_end s
-  unfolding without_last_end
-  end_dropped h k =
-      rw (
-        both_yes (eqb (get_or s (length s - 2) 0) 13) (eqb (get_or s (length s - 2 + 1) 0) 10) (eq-eqb (get_or s (length s - 2) 0) 13 h) (eq-eqb (get_or s (length s - 2 + 1) 0) 10 k),
-        sub-zero (length s - 2),
-      )
+pub too_short_to_end : (s : List ℕ) → length s < 2 → s ≡ without_last_end s
+too_short_to_end s h =
+    let z : get_or s (length s - 2 + 1) 0 ≡ 0 = get_or-eq_default s 0 {n = length s - 2 + 1} (omega arith) in
+    no_lf_at_end s (λ e. let never = sym z ∙ e in absurd (omega arith))
 
 -- the bytes before the first CR have no CR LF
 stop_past_cr : (s : List ℕ) → line_stop s ≡ before 13 s + line_stop (drop (before 13 s) s)
-unfolding line_stop before
+unfolding line_stop
 stop_past_cr [] = refl
 stop_past_cr (b ∷ s) = go (eqb b 13) refl (stop_past_cr s)
   where
     go : (t : Bool) → eqb b 13 ≡ t → line_stop s ≡ before 13 s + line_stop (drop (before 13 s) s)
         → cond (t && eqb (get_or s 0 0) 10) 0 (suc (line_stop s))
-        ≡ cond t 0 (suc (before 13 s)) + line_stop (drop (cond t 0 (suc (before 13 s))) (b ∷ s))
+        ≡ cond (not t) (1 + before 13 s) 0 + line_stop (drop (cond (not t) (1 + before 13 s) 0) (b ∷ s))
     go true e r = rw (e, zero-add)
-    go false e r = omega arith
+    go false e r = let n : 1 + before 13 s ≡ suc (before 13 s) = omega arith in rw n (omega arith)
 
 module _ (s : List ℕ) (i : ℕ) where
   pub stop_from_cr : i + before 13 (drop i s) + line_stop (drop (i + before 13 (drop i s)) s) ≡ i + line_stop (drop i s)

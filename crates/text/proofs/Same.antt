@@ -3,23 +3,12 @@
 use mathlib.Core.Path.{◌≡◌, refl, ap}
 use mathlib.Core.Bool.{Bool, true, false, ◌&&◌}
 use mathlib.Core.List.{List, [], ◌∷◌, ◌++◌}
-use Prim.Native.Nat.{ℕ, suc, ◌+◌, ◌<◌, ◌≤◌}
-use borrow.Author.Tests.{eq-eqb, ne_eqb, eqb-true}
+use Prim.Native.Nat.{ℕ, suc}
+use borrow.Author.Tests.{eq-eqb, eqb-true}
 use lib.Dec.{eqb}
-use lib.ListN.{length, get_or, take, drop, drop_of_length-le}
+use lib.ListN.{length, take, drop}
 use Rattle.text.specs.Bytes.{same}
 use Rattle.text.proofs.Branches.{and_left, and_right, second_no}
-use Rattle.text.proofs.Places.{from_here}
-
-module _ (a b : List ℕ) (i : ℕ) (ha : i < length a) (hb : i < length b) where
-  pub same_on : get_or a i 0 ≡ get_or b i 0 → same (drop i a) (drop i b) ≡ same (drop (i + 1) a) (drop (i + 1) b)
-  same_on e = rw (from_here a i ha, from_here b i hb) (rw (eq-eqb (get_or a i 0) (get_or b i 0) e))
-
-  pub same_not : (get_or a i 0 ≡ get_or b i 0 → ⊥) → same (drop i a) (drop i b) ≡ false
-  same_not e = rw (from_here a i ha, from_here b i hb) (rw (ne_eqb (get_or a i 0) (get_or b i 0) e))
-
-pub same_end : (a b : List ℕ) (i : ℕ) → length a ≤ i → length b ≤ i → same (drop i a) (drop i b) ≡ true
-same_end a b i h k = rw (drop_of_length-le a h, drop_of_length-le b k)
 
 pub same_length : (a b : List ℕ) → (length a ≡ length b → ⊥) → same a b ≡ false
 same_length [] [] h = absurd (h refl)

@@ -1,41 +1,19 @@
 -- Laws of octets and of the characters that they write, as the functions of `utf8` meet them.
 -- Assumes nothing.
-use mathlib.Core.Path.{◌≡◌, sym, ◌∙◌, ap}
+use mathlib.Core.Path.{◌≡◌}
 use mathlib.Core.Bool.{true, false, not}
 use mathlib.Core.List.{List}
-use Prim.Native.Nat.{ℕ, ◌+◌, ◌-◌, ◌*◌, ◌/◌, ◌%◌, ◌^◌, ◌<◌, ◌≤◌}
+use Prim.Native.Nat.{ℕ, ◌+◌, ◌/◌, ◌<◌, ◌≤◌}
 use native.Mathlib.Decide.{dec_lt}
-use native.Mathlib.Nat.{eq_of_mul-eq-mul_right}
 use native.Mathlib.Omega.{arith}
-use lib.Bits.{bit_and, bit_or, and_high, and_mask, or_shifted, mask_lt, or_add_and, and_le_l, and_le_r}
-use lib.Dec.{eqb, ltb}
+use lib.Bits.{bit_or, or_add_and, and_le_l, and_le_r}
 use lib.ListN.{length, get_or, get_or-eq_default}
-use lib.Pow.{pow_pos, shr_mod}
-use borrow.Author.Tests.{eq-eqb, ne_eqb, eqb-true, eqb-false, lt-ltb, le-ltb, ltb-true, ltb-false, leb-true}
+use borrow.Author.Tests.{ne_eqb, eqb-true, lt-ltb, le-ltb, ltb-true, leb-true}
 use Rattle.text.specs.Utf8.{ascii, tail_octet, lead2, lead3, lead4, point2, point3, point4, surrogate, range2, range3, range4}
 use Rattle.text.specs.Utf8.{row2, row3, row4, width, width_at, point_at}
 use Rattle.text.proofs.Branches.{and_left, and_right, either_way}
 
--- a test of the j high bits of an octet by a mask is a test of the octet without its k low bits
-pub high_bits : (j k v b : ℕ) → b < 2 ^ (j + k) → eqb (bit_and b (2 ^ (j + k) - 2 ^ k)) (v * 2 ^ k) ≡ eqb (b / 2 ^ k) v
-high_bits j k v b h =
-    rw (and_high b j k, shr_mod j k h)
-    (either_way (eqb (b / 2 ^ k) v) (λ e. eq-eqb _ _ (ap (λ n. n * 2 ^ k) (eqb-true (b / 2 ^ k) v e)) ∙ sym e)
-    (λ e. ne_eqb _ _ (λ q. eqb-false (b / 2 ^ k) v e (eq_of_mul-eq-mul_right (2 ^ k) (pow_pos k) _ _ q)) ∙ sym e))
-
--- bits put in front of the six of one more octet, at 32 bits
-pub behind : (bits b : ℕ) → bits < 0x400_0000 → bit_or (bits * 64 % 2 ^ 32) (bit_and b 0x3F) ≡ bits * 64 + b % 64
-behind bits b h =
-    let e : bits * 64 % 2 ^ 32 ≡ bits * 64 = omega arith in
-    rw (e, or_shifted bits 6 (bit_and b 0x3F) (mask_lt b 6), and_mask b 6)
-
--- an octet is ASCII where its highest bit is not set, and bits that are joined are where both were
-pub ascii_bit : (b : ℕ) → eqb (b / 128) 0 ≡ ascii b
-unfolding ascii
-ascii_bit b =
-    either_way (ltb b 128) (λ e. eq-eqb (b / 128) 0 (omega (arith, ltb-true b 128 e)) ∙ sym e)
-    (λ e. ne_eqb (b / 128) 0 (omega (arith, ltb-false b 128 e)) ∙ sym e)
-
+-- bits that are joined are ASCII only where both were
 pub joined_ascii : (a b : ℕ) → ascii (bit_or a b) ≡ true → (ascii a ≡ true) × (ascii b ≡ true)
 unfolding ascii
 joined_ascii a b h =
@@ -142,14 +120,11 @@ stands_within s i h = go (dec_lt i (length s))
     go (yes l) = l
     go (no n) = absurd (omega (arith, get_or-eq_default s 0 (not_below n)))
 
--- so a character ends within the text that it starts in
-pub ends_within : (s : List ℕ) (i : ℕ) → i < length s → i + width_at s i ≤ length s
-ends_within s i h =
-    by_rows s i (λ n p. i + n ≤ length s) (λ e. omega arith)
-    (λ e. let r = row2_says (get_or s i 0) (get_or s (i + 1) 0) e in omega (arith, stands_within s (i + 1) (omega arith)))
-    (λ e. let r = row3_says (get_or s i 0) (get_or s (i + 1) 0) (get_or s (i + 2) 0) e in omega (arith, stands_within s (i + 2) (omega arith)))
-    (λ e. let r = row4_says (get_or s i 0) (get_or s (i + 1) 0) (get_or s (i + 2) 0) (get_or s (i + 3) 0) e in omega (arith, stands_within s (i + 3) (omega arith)))
+-- so a character ends within the text that it starts
+pub ends_within : (s : List ℕ) → 0 < length s → width_at s 0 ≤ length s
+ends_within s h =
+    by_rows s 0 (λ n p. n ≤ length s) (λ e. omega arith)
+    (λ e. let r = row2_says (get_or s 0 0) (get_or s 1 0) e in omega (arith, stands_within s 1 (omega arith)))
+    (λ e. let r = row3_says (get_or s 0 0) (get_or s 1 0) (get_or s 2 0) e in omega (arith, stands_within s 2 (omega arith)))
+    (λ e. let r = row4_says (get_or s 0 0) (get_or s 1 0) (get_or s 2 0) (get_or s 3 0) e in omega (arith, stands_within s 3 (omega arith)))
     (λ p. omega arith)
-
-pub width_at_most_four : (s : List ℕ) (i : ℕ) → width_at s i ≤ 4
-width_at_most_four s i = by_rows s i (λ n p. n ≤ 4) (λ e. omega arith) (λ e. omega arith) (λ e. omega arith) (λ e. omega arith) (λ p. omega arith)

@@ -1,5 +1,6 @@
 -- Bytes: digits and letters, parts of a text, equality of two texts, and where a byte stands.
-use Rattle.std.specs.Prelude.{Bool, true, false, cond, ◌&&◌, ◌||◌, List, [], ◌∷◌, ℕ, suc, ◌-◌, leb, eqb, take, drop}
+use Rattle.std.specs.Prelude.{Bool, ◌&&◌, ◌||◌, List, ℕ, ◌-◌, leb, eqb, take, drop}
+use Rattle.std.specs.List.{list_all, list_any, position_or_len}
 use lib.Pointwise.{pointwise}
 
 -- from low to high, both included
@@ -17,9 +18,8 @@ letter b = between 0x41 0x5A b || between 0x61 0x7A b
 unfoldable pub letter_or_digit : ℕ → Bool
 letter_or_digit b = letter b || digit b
 
-unfoldable pub letters_or_digits : List ℕ → Bool
-letters_or_digits [] = true
-letters_or_digits (b ∷ s) = letter_or_digit b && letters_or_digits s
+abbrev pub letters_or_digits : List ℕ → Bool
+letters_or_digits = list_all letter_or_digit
 
 -- the bytes from place a up to place e, as far as there are any
 abbrev pub part : ℕ → ℕ → List ℕ → List ℕ
@@ -30,11 +30,9 @@ abbrev pub same : List ℕ → List ℕ → Bool
 same = pointwise eqb
 
 -- a byte stands in a text
-unfoldable pub has_byte : ℕ → List ℕ → Bool
-has_byte b [] = false
-has_byte b (x ∷ s) = eqb x b || has_byte b s
+abbrev pub has_byte : ℕ → List ℕ → Bool
+has_byte b = list_any (λ x. eqb x b)
 
--- how many bytes stand before the first b
-unfoldable pub before : ℕ → List ℕ → ℕ
-before b [] = 0
-before b (x ∷ s) = cond (eqb x b) 0 (suc (before b s))
+-- how many bytes stand before the first b: its place, or the length
+abbrev pub before : ℕ → List ℕ → ℕ
+before b = position_or_len (λ x. eqb x b)

@@ -1,36 +1,96 @@
 // Fields of a text at a separator: one pass notes where the separators stand, and each field is then found without another.
-ghost use Rattle.std.specs.Prelude.{◌≡◌, cond, ◌++◌, ◌-◌, ◌≤◌, eqb, ltb, length, get_or, take, replicate};
-ghost use Rattle.text.specs.Fields.{cuts, cut_table, cut_count, field_by};
+ghost use Rattle.std.specs.Prelude.{◌≡◌, [], ◌-◌, ◌<◌, ◌≤◌, eqb, length, get_or, take};
+ghost use Rattle.text.specs.Fields.{fields, cuts, cut_table, cut_count, field_by};
 
 use crate::bytes::slice;
 
+// A text with the places of its separators, as many as there is room for, and zeros behind them.
+#[derive(Drop)]
+pub struct Fields<'a, const SEPARATOR: u8, const ROOM: usize> {
+    text: &'a [u8],
+    cuts: [usize; ROOM],
+    count: usize,
+    ghost cut: { (cuts ≡ cut_table ROOM SEPARATOR text.now) × (count ≡ cut_count ROOM SEPARATOR text.now) },
+}
+
+impl<'a, const SEPARATOR: u8, const ROOM: usize> Fields<'a, SEPARATOR, ROOM> {
+    // The fields of a text.
+    pub fn of(text: &'a [u8]) -> Fields<'a, SEPARATOR, ROOM>
+        ensures { result.text.now ≡ text.now }
+    {
+        let mut cuts = [0usize; ROOM];
+        let count = cut(text, SEPARATOR, &mut cuts);
+        Fields { text, cuts, count }
+    }
+
+    // The text.
+    pub fn text(&self) -> &'a [u8]
+        ensures { result.now ≡ self.now.text.now }
+    {
+        self.text
+    }
+
+    // How many separators are noted.
+    #[tactic(auto, unfolding(crate::specs::Fields::cut_count))]
+    pub fn cuts(&self) -> usize
+        ensures value { result ≡ cut_count ROOM SEPARATOR self.now.text.now }
+        ensures at_most { result ≤ ROOM }
+    {
+        self.count
+    }
+
+    // Has the text just so many fields?
+    #[tactic(auto, using(crate::proofs::FieldsByTable::fields_by_cut))]
+    pub fn has(&self, n: usize) -> bool
+        requires { n ≤ ROOM }
+        ensures { result ≡ eqb (length (fields SEPARATOR self.now.text.now)) n }
+    {
+        self.cuts() + 1 == n
+    }
+
+    // Field n, counted from 1.
+    #[tactic(auto, using(crate::proofs::FieldsByTable::field_by_cut))]
+    pub fn nth(&self, n: usize) -> &'a [u8]
+        requires { (1 ≤ n) × (n ≤ ROOM) }
+        ensures { result.now ≡ get_or (fields SEPARATOR self.now.text.now) (n - 1) [] }
+    {
+        self.field(n - 1)
+    }
+
+    // Field k, counted from 0.
+    #[tactic(auto, using(crate::proofs::Branches::branches), unfolding(crate::specs::Fields::field_by))]
+    fn field(&self, k: usize) -> &'a [u8]
+        ensures { result.now ≡ field_by (cut_table ROOM SEPARATOR self.now.text.now) (cut_count ROOM SEPARATOR self.now.text.now) k self.now.text.now }
+    {
+        let n = self.text.len();
+        if self.count < k {
+            return &self.text[n..];
+        }
+        let end = if k < self.count { self.cut_at(k) } else { n };
+        let start = if k == 0 { 0 } else { self.cut_at(k - 1) + 1 };
+        slice(self.text, start, end)
+    }
+
+    // The place of separator k.
+    fn cut_at(&self, k: usize) -> usize
+        requires { k < cut_count ROOM SEPARATOR self.now.text.now }
+        ensures value { result ≡ get_or (cut_table ROOM SEPARATOR self.now.text.now) k 0 }
+        ensures within { result < length self.now.text.now }
+    {
+        self.cuts[k]
+    }
+}
+
 // Fills a table with the places of a text's separators, as many as it has room for, zeros behind them, and answers how many it holds.
-pub fn cut(s: &[u8], separator: u8, table: &mut [usize]) -> usize
+#[tactic(auto, unfolding(crate::specs::Fields::cut_count))]
+fn cut(s: &[u8], separator: u8, table: &mut [usize]) -> usize
     ensures value { result ≡ cut_count (length table.old) separator s.now }
     ensures table_after { table.new ≡ cut_table (length table.old) separator s.now }
 {
     let count = note_cuts(s, separator, table);
-    clear_from(table, count);
+    let (_, behind) = table.split_at_mut(count);
+    behind.fill(0);
     count
-}
-
-// Field k of a text by the table of its cuts and their number, as `cut` leaves them.
-pub fn field<'a, 'b>(s: &'a [u8], table: &'b [usize], count: usize, k: usize) -> &'a [u8]
-    ensures { result.now ≡ field_by table.now count k s.now }
-{
-    let n = s.len();
-    if count < k {
-        return slice(s, n, n);
-    }
-    let end = end_of(table, count, k, n);
-    if k == 0 {
-        return slice(s, 0, end);
-    }
-    let before = place_at(table, k - 1);
-    if n <= before {
-        return slice(s, n, n);
-    }
-    slice(s, before + 1, end)
 }
 
 // Notes the places of the separators, as many as the table has room for, and answers how many; the place behind the last is overwritten.
@@ -39,51 +99,12 @@ fn note_cuts(s: &[u8], separator: u8, table: &mut [usize]) -> usize
     ensures table_after { take result table.new ≡ take (length table.old) (cuts separator s.now) }
 {
     let mut count = 0;
-    let mut i = 0;
-    while i < s.len() {
+    for (i, b) in s.iter().enumerate() {
         if count == table.len() {
             return count;
         }
         table[count] = i;
-        count += one_if_equal(s[i], separator);
-        i += 1;
+        count += usize::from(*b == separator);
     }
     count
-}
-
-// Puts zeros behind the first places of a table.
-fn clear_from(table: &mut [usize], from: usize)
-    requires { from ≤ length table.old }
-    ensures { table.new ≡ take from table.old ++ replicate (length table.old - from) 0 }
-{
-    let mut i = table.len();
-    while from < i {
-        i -= 1;
-        table[i] = 0;
-    }
-}
-
-// Where field k ends: at the cut after it, or with the text.
-fn end_of(table: &[usize], count: usize, k: usize, length: usize) -> usize
-    ensures { result ≡ cond (ltb k count) (get_or table.now k 0) length }
-{
-    if k < count {
-        place_at(table, k)
-    } else {
-        length
-    }
-}
-
-// A place of a table, 0 past its end.
-fn place_at(table: &[usize], i: usize) -> usize
-    ensures { result ≡ get_or table.now i 0 }
-{
-    if i < table.len() { table[i] } else { 0 }
-}
-
-// 1 where two bytes are equal, else 0.
-fn one_if_equal(a: u8, b: u8) -> usize
-    ensures { result ≡ cond (eqb a b) 1 0 }
-{
-    if a == b { 1 } else { 0 }
 }

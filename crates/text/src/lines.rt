@@ -2,7 +2,7 @@
 ghost use Rattle.std.specs.Prelude.{◌≡◌, ◌+◌, drop};
 ghost use Rattle.text.specs.Lines.{without_last_end, line_stop, stray};
 
-use crate::bytes::{byte_at, find, has_byte, slice};
+use crate::bytes::{byte_at, find};
 
 const CR: u8 = 0x0D;
 
@@ -12,18 +12,7 @@ const LF: u8 = 0x0A;
 pub fn without_last_end(s: &[u8]) -> &[u8]
     ensures { result.now ≡ without_last_end s.now }
 {
-    let n = s.len();
-    if n < 2 {
-        return s;
-    }
-    let end = n - 2;
-    if s[end] != CR {
-        return s;
-    }
-    if s[end + 1] != LF {
-        return s;
-    }
-    slice(s, 0, end)
+    s.strip_suffix(&[CR, LF]).unwrap_or(s)
 }
 
 // Where the line ends that starts at a place: at the next CR LF, or with the text.
@@ -42,8 +31,9 @@ pub fn line_end(s: &[u8], from: usize) -> usize
 }
 
 // Has a line a CR or LF of its own?
+#[tactic(auto, unfolding(crate::specs::Lines::stray))]
 pub fn has_stray(line: &[u8]) -> bool
     ensures { result ≡ stray line.now }
 {
-    has_byte(line, CR) || has_byte(line, LF)
+    line.contains(&CR) || line.contains(&LF)
 }

@@ -1,5 +1,5 @@
 // UTF-8 as RFC 3629 has it. Octets are judged and code points built by masks and shifts, ranges are judged on the code point that was built.
-ghost use Rattle.std.specs.Prelude.{◌≡◌, true, false, ℕ, ◌+◌, ◌*◌, ◌%◌, ◌<◌, ◌≤◌, length, get_or, drop};
+ghost use Rattle.std.specs.Prelude.{◌≡◌, true, false, ◌+◌, ◌*◌, ◌%◌, ◌<◌, ◌≤◌, length, slice_index, EachIndex, MatchOption};
 ghost use Rattle.text.specs.Utf8.{ascii, tail_octet, lead2, lead3, lead4, point2, point3, point4, surrogate, range2, range3, range4};
 ghost use Rattle.text.specs.Utf8.{row2, row3, row4, width, width_at, well_formed, starts, code_points};
 ghost use Rattle.text.specs.Inner.Utf8Steps.{Past};
@@ -10,92 +10,84 @@ use crate::bytes::byte_at;
 const BLOCK: usize = 16;
 
 // Is the text well formed?
+#[tactic(auto, using(crate::proofs::Utf8Places::nothing_left))]
 pub fn is_well_formed(s: &[u8]) -> bool
     ensures { result ≡ well_formed s.now }
 {
-    let mut i = 0;
-    while i < s.len() {
-        let j = past_block(s, i);
-        if j == i {
+    let mut left = s;
+    while !left.is_empty() {
+        let Some(behind) = behind_block(left) else {
             return false;
-        }
-        i = j;
+        };
+        left = behind;
     }
     true
 }
 
 // How many code points the text has.
+#[tactic(auto, using(crate::proofs::Utf8Places::all_counted), unfolding(crate::specs::Utf8::starts))]
 pub fn count_code_points(s: &[u8]) -> usize
     ensures { result ≡ code_points s.now }
 {
     let mut n = 0;
-    let mut i = 0;
-    while i < s.len() {
-        n += start_of(s[i]);
-        i += 1;
+    for b in s {
+        n += start_of(*b);
     }
     n
 }
 
-// A place past i, behind a block of ASCII or behind the first character that is not; i itself where that one is not well formed.
-fn past_block(s: &[u8], i: usize) -> usize
-    requires { i < length s.now }
-    ensures past { Past s.now i result }
-    ensures stuck { result ≡ i → well_formed (drop i s.now) ≡ false }
+// What stands behind a block of ASCII or behind the first character that is not; none where that one is not well formed.
+fn behind_block(s: &[u8]) -> Option<&[u8]>
+    requires { 0 < length s.now }
+    ensures { MatchOption result (well_formed s.now ≡ false) (λ t. Past s.now t.now) }
 {
-    let n = s.len();
-    if n - i < BLOCK {
-        return past_characters(s, i, n);
+    let Some((block, behind)) = s.split_first_chunk::<BLOCK>() else {
+        return behind_character(s);
+    };
+    if all_ascii(block) {
+        return Some(behind);
     }
-    let e = i + BLOCK;
-    if all_ascii(&s[i..e]) {
-        return e;
+    behind_character(s)
+}
+
+// Are all octets ASCII? Their bits are joined and tested once, so that the loop has no exit but its end.
+#[tactic(auto, using(crate::proofs::Utf8Laws::joined_ascii), unfolding(crate::specs::Utf8::ascii))]
+fn all_ascii(s: &[u8]) -> bool
+    ensures { result ≡ true → EachIndex s.now (λ k. ascii (slice_index s.now k) ≡ true) }
+{
+    let mut bits = 0;
+    for b in s {
+        bits |= *b;
     }
-    past_characters(s, i, e)
+    is_ascii(bits)
 }
 
 // 1 for an octet that starts a character, 0 for a tail.
+#[tactic(auto, unfolding(crate::specs::Utf8::starts))]
 fn start_of(b: u8) -> usize
     ensures { result ≡ starts b }
 {
     if is_tail(b) { 0 } else { 1 }
 }
 
-// Behind the first character from i on that is not ASCII, or e where none starts before it; i itself where that one is not well formed.
-fn past_characters(s: &[u8], i: usize, e: usize) -> usize
-    requires { (i < e) × (e ≤ length s.now) }
-    ensures past { Past s.now i result }
-    ensures stuck { result ≡ i → well_formed (drop i s.now) ≡ false }
+// What stands behind the first character that is not ASCII, nothing where there is none; none where that one is not well formed.
+fn behind_character(s: &[u8]) -> Option<&[u8]>
+    requires { 0 < length s.now }
+    ensures { MatchOption result (well_formed s.now ≡ false) (λ t. Past s.now t.now) }
 {
-    let mut j = i;
-    while j < e {
-        if is_ascii(s[j]) {
-            j += 1;
-            continue;
-        }
-        let w = width_at(s, j);
-        if w == 0 {
-            return i;
-        }
-        return j + w;
+    let Some(i) = s.iter().position(|b| !is_ascii(*b)) else {
+        return Some(&[]);
+    };
+    let from = &s[i..];
+    let w = first_width(from);
+    if w == 0 {
+        return None;
     }
-    j
-}
-
-// Are all octets ASCII? Their bits are joined and tested once, so that the loop has no exit but its end.
-fn all_ascii(s: &[u8]) -> bool
-    ensures { result ≡ true → (k : ℕ) → k < length s.now → ascii (get_or s.now k 0) ≡ true }
-{
-    let mut bits: u8 = 0;
-    let mut i = 0;
-    while i < s.len() {
-        bits |= s[i];
-        i += 1;
-    }
-    is_ascii(bits)
+    Some(&from[w..])
 }
 
 // Is the octet 10xxxxxx?
+#[tactic(auto, unfolding(crate::specs::Utf8::tail_octet))]
 fn is_tail(b: u8) -> bool
     ensures { result ≡ tail_octet b }
 {
@@ -103,26 +95,25 @@ fn is_tail(b: u8) -> bool
 }
 
 // Is the octet 0xxxxxxx?
+#[tactic(auto, unfolding(crate::specs::Utf8::ascii))]
 fn is_ascii(b: u8) -> bool
     ensures { result ≡ ascii b }
 {
     b & 0x80 == 0
 }
 
-// How many octets the character takes that starts at a place of the text; 0 where none does.
-fn width_at(s: &[u8], i: usize) -> usize
-    requires { i < length s.now }
-    ensures { result ≡ width_at s.now i }
+// How many octets the character takes that starts the text; 0 where none does.
+#[tactic(auto, using(crate::proofs::Utf8Laws::ends_within))]
+fn first_width(s: &[u8]) -> usize
+    requires { 0 < length s.now }
+    ensures value { result ≡ width_at s.now 0 }
+    ensures within { result ≤ length s.now }
 {
-    width_of(
-        s[i],
-        byte_at(s, i + 1),
-        byte_at(s, i + 2),
-        byte_at(s, i + 3),
-    )
+    width_of(s[0], byte_at(s, 1), byte_at(s, 2), byte_at(s, 3))
 }
 
 // How many octets the character takes that starts with a b c d; 0 where none does.
+#[tactic(auto, unfolding(crate::specs::Utf8::width))]
 fn width_of(a: u8, b: u8, c: u8, d: u8) -> usize
     ensures { result ≡ width a b c d }
 {
@@ -140,6 +131,7 @@ fn width_of(a: u8, b: u8, c: u8, d: u8) -> usize
 }
 
 // Are the two octets a character?
+#[tactic(auto, unfolding(crate::specs::Utf8::row2))]
 fn is_row2(a: u8, b: u8) -> bool
     ensures { result ≡ row2 a b }
 {
@@ -147,6 +139,7 @@ fn is_row2(a: u8, b: u8) -> bool
 }
 
 // Are the three octets a character?
+#[tactic(auto, unfolding(crate::specs::Utf8::row3))]
 fn is_row3(a: u8, b: u8, c: u8) -> bool
     ensures { result ≡ row3 a b c }
 {
@@ -154,6 +147,7 @@ fn is_row3(a: u8, b: u8, c: u8) -> bool
 }
 
 // Are the four octets a character?
+#[tactic(auto, unfolding(crate::specs::Utf8::row4))]
 fn is_row4(a: u8, b: u8, c: u8, d: u8) -> bool
     ensures { result ≡ row4 a b c d }
 {
@@ -162,6 +156,7 @@ fn is_row4(a: u8, b: u8, c: u8, d: u8) -> bool
 }
 
 // Is the octet 110xxxxx?
+#[tactic(auto, unfolding(crate::specs::Utf8::lead2))]
 fn is_lead2(b: u8) -> bool
     ensures { result ≡ lead2 b }
 {
@@ -169,13 +164,15 @@ fn is_lead2(b: u8) -> bool
 }
 
 // Is the code point one that two octets write?
+#[tactic(auto, unfolding(crate::specs::Utf8::range2))]
 fn in_range2(p: u32) -> bool
     ensures { result ≡ range2 p }
 {
-    0x80 <= p && p <= 0x7FF
+    (0x80..=0x7FF).contains(&p)
 }
 
 // The code point that two octets write.
+#[tactic(auto, unfolding(crate::specs::Utf8::point2))]
 fn two_octets(a: u8, b: u8) -> u32
     ensures { result ≡ point2 a b }
 {
@@ -183,6 +180,7 @@ fn two_octets(a: u8, b: u8) -> u32
 }
 
 // Is the octet 1110xxxx?
+#[tactic(auto, unfolding(crate::specs::Utf8::lead3))]
 fn is_lead3(b: u8) -> bool
     ensures { result ≡ lead3 b }
 {
@@ -190,13 +188,15 @@ fn is_lead3(b: u8) -> bool
 }
 
 // Is the code point one that three octets write?
+#[tactic(auto, unfolding(crate::specs::Utf8::range3))]
 fn in_range3(p: u32) -> bool
     ensures { result ≡ range3 p }
 {
-    0x800 <= p && (p <= 0xFFFF && !is_surrogate(p))
+    (0x800..=0xFFFF).contains(&p) && !is_surrogate(p)
 }
 
 // The code point that three octets write.
+#[tactic(auto, unfolding(crate::specs::Utf8::point3))]
 fn three_octets(a: u8, b: u8, c: u8) -> u32
     ensures { result ≡ point3 a b c }
 {
@@ -204,6 +204,7 @@ fn three_octets(a: u8, b: u8, c: u8) -> u32
 }
 
 // Is the octet 11110xxx?
+#[tactic(auto, unfolding(crate::specs::Utf8::lead4))]
 fn is_lead4(b: u8) -> bool
     ensures { result ≡ lead4 b }
 {
@@ -211,13 +212,15 @@ fn is_lead4(b: u8) -> bool
 }
 
 // Is the code point one that four octets write?
+#[tactic(auto, unfolding(crate::specs::Utf8::range4))]
 fn in_range4(p: u32) -> bool
     ensures { result ≡ range4 p }
 {
-    0x10000 <= p && p <= 0x10FFFF
+    (0x10000..=0x10FFFF).contains(&p)
 }
 
 // The code point that four octets write.
+#[tactic(auto, unfolding(crate::specs::Utf8::point4))]
 fn four_octets(a: u8, b: u8, c: u8, d: u8) -> u32
     ensures { result ≡ point4 a b c d }
 {
@@ -233,8 +236,9 @@ fn with_tail(bits: u32, b: u8) -> u32
 }
 
 // Is the code point a surrogate?
+#[tactic(auto, unfolding(crate::specs::Utf8::surrogate))]
 fn is_surrogate(p: u32) -> bool
     ensures { result ≡ surrogate p }
 {
-    0xD800 <= p && p <= 0xDFFF
+    (0xD800..=0xDFFF).contains(&p)
 }

@@ -2,7 +2,6 @@
 pub mod Spelling
 pub mod ReadDigits
 pub mod Putting
-pub mod FourPieces
 pub mod ReadingBack
 pub mod WellFormed
 pub mod Plain
@@ -10,3 +9,4 @@ pub mod FullLines
 pub mod Answers
 pub mod MoneySpelled
 pub mod Examples
+pub mod Pieces

@@ -1,24 +1,20 @@
 -- Money that is spelled: how long it is, that it reads back, and that what was read is spelled as it was.
 -- Assumes nothing.
 use mathlib.Core.Path.{◌≡◌, refl, sym, ◌∙◌, ap}
-use mathlib.Core.Bool.{true, cond, ◌&&◌, false≢true}
+use mathlib.Core.Bool.{true, cond, ◌&&◌}
 use mathlib.Core.List.{List, [], ◌∷◌, ◌++◌}
 use Prim.Native.Nat.{ℕ, suc, ◌+◌, ◌*◌, ◌-◌, ◌/◌, ◌%◌, ◌≤◌}
 use native.Mathlib.Omega.{arith}
 use borrow.Author.Tests.{eqb-true, ltb-true, ltb-false}
 use lib.Dec.{eqb, ltb}
-use lib.ListN.{length, get_or, take, drop, length-append, length-drop}
-use lib.Seq.{take_all, split_at, take_at, get_or_at, drop-append-add}
-use Rattle.text.specs.Bytes.{part}
+use lib.ListN.{length, get_or, take, drop, length-append}
+use lib.Seq.{split_at, take_at, get_or_at, drop-append-add}
 use Rattle.text.specs.Number.{number}
-use Rattle.text.specs.declared.number.Number.{Number}
-use Rattle.text.specs.declared.number.Number.TheVariants.{Of, Not}
+use Rattle.std.specs.Prelude.{Option, Some, None}
 use Rattle.text.proofs.Branches.{either_way, and_left, and_right}
 use Rattle.text.proofs.Digits.{number_bound}
-use Rattle.money.specs.Money.{amount, is_amount, grosze_of}
+use Rattle.money.specs.Money.{amount, grosze_of}
 use Rattle.money.specs.Text.{together, no_leading_zero, text_of}
-use Rattle.money.specs.declared.AmountRead.{AmountRead}
-use Rattle.money.specs.declared.AmountRead.TheVariants.{Is as AmountIs, Not as NoAmount}
 use Rattle.write.specs.Spelled.{digits, places_of, spelled}
 use Rattle.write.specs.Money.{money_text, MoneyIsRead, ReadIsSpelled, OneSpelling}
 use Rattle.write.proofs.Spelling.{digits_long, spelled_is_read, digits_are_read}
@@ -37,36 +33,32 @@ record Parts (most : ℕ) (s : List ℕ) (n : ℕ) : Type 0 where
   zlote : ℕ
   grosze : ℕ
   point : get_or s (length s - 3) 0 ≡ 0x2E
-  led : no_leading_zero (part 0 (length s - 3) s) ≡ true
-  is_zlote : number 1 most (part 0 (length s - 3) s) ≡ Of zlote
-  is_grosze : number 2 2 (part (length s - 2) (length s) s) ≡ Of grosze
+  led : no_leading_zero (take (length s - 3) s) ≡ true
+  is_zlote : number 1 most (take (length s - 3) s) ≡ Some zlote
+  is_grosze : number 2 2 (drop (length s - 2) s) ≡ Some grosze
   value : n ≡ zlote * 100 + grosze
 
-record Together (a b : Number) (n : ℕ) : Type 0 where
+record Together (a b : Option ℕ) (n : ℕ) : Type 0 where
   whole : ℕ
   rest : ℕ
-  is_whole : a ≡ Of whole
-  is_rest : b ≡ Of rest
+  is_whole : a ≡ Some whole
+  is_rest : b ≡ Some rest
   sum : n ≡ whole * 100 + rest
 
-no_amount : (n : ℕ) → ◌≡◌ {A = AmountRead} NoAmount (AmountIs (amount n)) → ⊥
-unfolding is_amount
-no_amount n e = false≢true (ap is_amount e)
-
-together_says : (a b : Number) (n : ℕ) → together a b ≡ AmountIs (amount n) → Together a b n
+together_says : (a b : Option ℕ) (n : ℕ) → together a b ≡ Some (amount n) → Together a b n
 unfolding together grosze_of
-together_says (Of z) (Of g) n e = record { whole = z; rest = g; is_whole = refl; is_rest = refl; sum = sym (ap grosze_of e) }
-together_says (Of z) Not n e = absurd (no_amount n e)
-together_says Not b n e = absurd (no_amount n e)
+together_says (Some z) (Some g) n e = record { whole = z; rest = g; is_whole = refl; is_rest = refl; sum = sym (ap grosze_of e) }
+together_says (Some z) None n e = cc
+together_says None b n e = cc
 
-parts_of_lem : (most : ℕ) (s : List ℕ) (n : ℕ) → text_of most s ≡ AmountIs (amount n) → Parts most s n
+parts_of_lem : (most : ℕ) (s : List ℕ) (n : ℕ) → text_of most s ≡ Some (amount n) → Parts most s n
 unfolding text_of
 parts_of_lem most s n e =
     let point = eqb (get_or s (length s - 3) 0) 0x2E in
-    let led = no_leading_zero (part 0 (length s - 3) s) in
+    let led = no_leading_zero (take (length s - 3) s) in
     either_way (point && led)
     (λ shaped.
-    let both = together_says (number 1 most (part 0 (length s - 3) s)) (number 2 2 (part (length s - 2) (length s) s)) n (rw shaped at e) in record {
+    let both = together_says (number 1 most (take (length s - 3) s)) (number 2 2 (drop (length s - 2) s)) n (rw shaped at e) in record {
       zlote = both.whole;
       grosze = both.rest;
       point = eqb-true (get_or s (length s - 3) 0) 0x2E (and_left point led shaped);
@@ -75,33 +67,29 @@ parts_of_lem most s n e =
       is_grosze = both.is_rest;
       value = both.sum;
     })
-    (λ not. absurd (no_amount n (rw not at e)))
+    (λ not. let never = rw not at e in cc)
 
 -- by where the point stands
 module _ (s : List ℕ) (k : ℕ) (long : length s ≡ k + 3) where
-  before_point : part 0 (length s - 3) s ≡ take k s
-  before_point = let same : length s - 3 - 0 ≡ k = omega arith in ap (λ (j : ℕ). take j s) same
+  before_point : take (length s - 3) s ≡ take k s
+  before_point = let same : length s - 3 ≡ k = omega arith in ap (λ (j : ℕ). take j s) same
 
-  behind_point : part (length s - 2) (length s) s ≡ drop (suc k) s
-  behind_point =
-      let place : length s - 2 ≡ suc k = omega arith in
-      let two : length s - (length s - 2) ≡ 2 = omega arith in
-      let left = length-drop (suc k) s in
-      (λ i. take (two i) (drop (place i) s)) ∙ take_all 2 (drop (suc k) s) (omega arith)
+  behind_point : drop (length s - 2) s ≡ drop (suc k) s
+  behind_point = let place : length s - 2 ≡ suc k = omega arith in ap (λ (j : ℕ). drop j s) place
 
-  around_point : get_or s (length s - 3) 0 ≡ 0x2E → s ≡ part 0 (length s - 3) s ++ (0x2E ∷ part (length s - 2) (length s) s)
+  around_point : get_or s (length s - 3) 0 ≡ 0x2E → s ≡ take (length s - 3) s ++ (0x2E ∷ drop (length s - 2) s)
   around_point point =
       let place : length s - 3 ≡ k = omega arith in
       split_at s k 0 (omega arith)
       ∙ (λ i. sym before_point i ++ ((ap (λ (j : ℕ). get_or s j 0) (sym place) ∙ point) i ∷ sym behind_point i))
 
 -- there is a digit before the point
-long_enough : (s : List ℕ) → 1 ≤ length (part 0 (length s - 3) s) → length s ≡ length s - 3 + 3
+long_enough : (s : List ℕ) → 1 ≤ length (take (length s - 3) s) → length s ≡ length s - 3 + 3
 long_enough s some =
     either_way (ltb (length s) 4)
     (λ short.
     let less = ltb-true (length s) 4 short in
-    let none : length s - 3 - 0 ≡ 0 = omega arith in
+    let none : length s - 3 ≡ 0 = omega arith in
     absurd (omega (arith, rw none at some)))
     (λ long. let least = ltb-false (length s) 4 long in omega arith)
 
@@ -119,8 +107,8 @@ read_is_spelled most s n e =
     let parts = parts_of_lem most s n e in
     let z = parts.zlote in
     let g = parts.grosze in
-    let before = part 0 (length s - 3) s in
-    let behind = part (length s - 2) (length s) s in
+    let before = take (length s - 3) s in
+    let behind = drop (length s - 2) s in
     let zlote = number_says 1 most before z parts.is_zlote in
     let grosze = number_says 2 2 behind g parts.is_grosze in
     let least = grosze.0 in
@@ -149,18 +137,18 @@ module _ (n : ℕ) where
       let zlote = digits_long places (n / 100) in
       get_or_at (spelled (n / 100)) 0x2E (digits 2 n) 0 (length (money_text n) - 3) (omega arith)
 
-  spelled_before : part 0 (length (money_text n) - 3) (money_text n) ≡ spelled (n / 100)
+  spelled_before : take (length (money_text n) - 3) (money_text n) ≡ spelled (n / 100)
   unfolding money_text
   spelled_before =
       before_point (money_text n) places (money_long n) ∙ take_at (spelled (n / 100)) (0x2E ∷ digits 2 n) places (digits_long places (n / 100))
 
-  spelled_behind : part (length (money_text n) - 2) (length (money_text n)) (money_text n) ≡ digits 2 n
+  spelled_behind : drop (length (money_text n) - 2) (money_text n) ≡ digits 2 n
   unfolding money_text
   spelled_behind =
       let next : suc places ≡ length (spelled (n / 100)) + 1 = let long = digits_long places (n / 100) in omega arith in
       behind_point (money_text n) places (money_long n) ∙ ap (λ (k : ℕ). drop k (money_text n)) next ∙ drop-append-add (spelled (n / 100)) (0x2E ∷ digits 2 n) 1
 
-  grosze_read : number 2 2 (digits 2 n) ≡ Of (n % 100)
+  grosze_read : number 2 2 (digits 2 n) ≡ Some (n % 100)
   grosze_read = ap (λ (t : List ℕ). number 2 2 t) (two_digits n) ∙ digits_are_read 2 (n % 100) (omega arith) (omega arith)
 
 pub money_is_read : MoneyIsRead
@@ -168,5 +156,5 @@ unfolding text_of together
 money_is_read most n one few h =
     let zlote = spelled_is_read 1 most (n / 100) (omega arith) one few (omega arith) in
     let whole : n / 100 * 100 + n % 100 ≡ n = omega arith in
-    (λ i. cond (eqb (spelled_point n i) 0x2E && no_leading_zero (spelled_before n i)) (together (number 1 most (spelled_before n i)) (number 2 2 (spelled_behind n i))) NoAmount)
-    ∙ rw (spelled_led (n / 100), zlote, grosze_read n) (ap (λ (k : ℕ). AmountIs (amount k)) whole)
+    (λ i. cond (eqb (spelled_point n i) 0x2E && no_leading_zero (spelled_before n i)) (together (number 1 most (spelled_before n i)) (number 2 2 (spelled_behind n i))) None)
+    ∙ rw (spelled_led (n / 100), zlote, grosze_read n) (ap (λ (k : ℕ). Some (amount k)) whole)

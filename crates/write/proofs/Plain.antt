@@ -29,7 +29,7 @@ all_plain (field ∷ row) = plain field && all_plain row
 -- a byte that no plain text has
 module _ (b : ℕ) (never : (x : ℕ) → is_plain x ≡ true → eqb x b ≡ false) where
   plain_without : (s : List ℕ) → plain s ≡ true → has_byte b s ≡ false
-  unfolding plain has_byte
+  unfolding plain
   plain_without [] h = refl
   plain_without (x ∷ s) h = rw (never x (and_left (is_plain x) (plain s) h)) (plain_without s (and_right (is_plain x) (plain s) h))
 
@@ -100,7 +100,7 @@ letter_or_digit_plain b h =
     (λ not. within 0x30 0x39 b (omega arith) (omega arith) (rw not at h))
 
 pub letters_or_digits_plain : (s : List ℕ) → letters_or_digits s ≡ true → plain s ≡ true
-unfolding letters_or_digits plain
+unfolding plain
 letters_or_digits_plain [] h = refl
 letters_or_digits_plain (b ∷ s) h =
     both_yes (is_plain b) (plain s) (letter_or_digit_plain b (and_left (letter_or_digit b) (letters_or_digits s) h))

@@ -11,34 +11,34 @@ use lib.ListN.{length, get_or, take, get_or-append}
 use lib.Seq.{length-take-le, take_all, take-suc}
 use Rattle.text.specs.Bytes.{between, digit}
 use Rattle.text.specs.Number.{number, number_after}
-use Rattle.text.specs.declared.number.Number.TheVariants.{Of}
+use Rattle.std.specs.Prelude.{Some}
 use Rattle.text.proofs.Branches.{either_way, and_left, and_right}
 use Rattle.text.proofs.Digits.{digit_range, number_bound, tens_rise}
 use Rattle.money.specs.Text.{no_leading_zero}
 use Rattle.write.specs.Spelled.{digits, places_within, places_of, spelled}
-use Rattle.write.proofs.Spelling.{digits_long, of_same, not_of, tens, one_place, one_place_more, some_place, within_places, places_at_most}
+use Rattle.write.proofs.Spelling.{digits_long, tens, one_place, one_place_more, some_place, within_places, places_at_most}
 
 -- the last digit of a number, and what stands before it
 record LastDigit (n : ℕ) (s : List ℕ) (b v : ℕ) : Type 0 where
   rest : ℕ
-  is_rest : number_after n s ≡ Of rest
+  is_rest : number_after n s ≡ Some rest
   is_digit : (48 ≤ b) × (b ≤ 57)
   value : v ≡ rest * 10 + (b - 0x30)
 
-last_digit : (n : ℕ) (s : List ℕ) (b v : ℕ) → number_after n (s ++ (b ∷ [])) ≡ Of v → LastDigit n s b v
+last_digit : (n : ℕ) (s : List ℕ) (b v : ℕ) → number_after n (s ++ (b ∷ [])) ≡ Some v → LastDigit n s b v
 unfolding number_after
 last_digit n [] b v e =
     either_way (digit b)
-    (λ is. record { rest = n; is_rest = refl; is_digit = digit_range b is; value = sym (of_same (n * 10 + (b - 0x30)) v (rw is at e)) })
-    (λ not. absurd (not_of v (rw not at e)))
+    (λ is. record { rest = n; is_rest = refl; is_digit = digit_range b is; value = let same = rw is at e in cc })
+    (λ not. let never = rw not at e in cc)
 last_digit n (x ∷ s) b v e =
     either_way (digit x)
     (λ is.
     let last = last_digit (n * 10 + (x - 0x30)) s b v (rw is at e) in
     record { rest = last.rest; is_rest = rw is last.is_rest; is_digit = last.is_digit; value = last.value })
-    (λ not. absurd (not_of v (rw not at e)))
+    (λ not. let never = rw not at e in cc)
 
-pub read_digits : (k : ℕ) (t : List ℕ) (v : ℕ) → length t ≡ k → number_after 0 t ≡ Of v → digits k v ≡ t
+pub read_digits : (k : ℕ) (t : List ℕ) (v : ℕ) → length t ≡ k → number_after 0 t ≡ Some v → digits k v ≡ t
 unfolding digits
 read_digits zero [] v e r = refl
 read_digits zero (b ∷ t) v e r = absurd (omega (arith, e))
@@ -54,8 +54,8 @@ read_digits (suc k) t v e r =
     (λ i. digits k (tens i) ++ (ones i ∷ [])) ∙ (λ i. before i ++ (get_or t k 0 ∷ [])) ∙ sym all
 
 -- what a number that was read says of its text
-pub number_says : (least most : ℕ) (s : List ℕ) (v : ℕ) → number least most s ≡ Of v
-    → (least ≤ length s) × (length s ≤ most) × (length s ≤ 18) × (number_after 0 s ≡ Of v)
+pub number_says : (least most : ℕ) (s : List ℕ) (v : ℕ) → number least most s ≡ Some v
+    → (least ≤ length s) × (length s ≤ most) × (length s ≤ 18) × (number_after 0 s ≡ Some v)
 unfolding number
 number_says least most s v e =
     either_way (between least most (length s) && leb (length s) 18)
@@ -66,7 +66,7 @@ number_says least most s v e =
       leb-true (length s) 18 (and_right (between least most (length s)) _ fits),
       rw fits at e,
     ))
-    (λ not. absurd (not_of v (rw not at e)))
+    (λ not. let never = rw not at e in cc)
 
 -- the first of a number's digits is 0 where it has fewer, and is not where it has as many
 first_digit : (l z : ℕ) → get_or (digits (suc (suc l)) z) 0 0 ≡ get_or (digits (suc l) (z / 10)) 0 0
@@ -117,8 +117,8 @@ spelled_led z =
     rw (many, ne_eqb (get_or (spelled z) 0 0) 0x30 (λ e. other (ap (λ (k : ℕ). get_or (digits k z) 0 0) (sym places) ∙ e))))
 
 -- a text without a leading zero
-module _ (t : List ℕ) (v : ℕ) (some : 1 ≤ length t) (few : length t ≤ 18) (r : number_after 0 t ≡ Of v) (led : no_leading_zero t ≡ true) where
-  whole_number : number (length t) (length t) t ≡ Of v
+module _ (t : List ℕ) (v : ℕ) (some : 1 ≤ length t) (few : length t ≤ 18) (r : number_after 0 t ≡ Some v) (led : no_leading_zero t ≡ true) where
+  whole_number : number (length t) (length t) t ≡ Some v
   unfolding number
   whole_number = rw (le-leb (length t) (length t) (omega arith), le-leb (length t) 18 few) r
 

@@ -19,7 +19,6 @@ use Rattle.write.specs.Files.{line, is_field, are_fields, is_line, are_lines, Re
 
 -- a byte that stands nowhere in two texts
 nor_behind : (b : ℕ) (s t : List ℕ) → has_byte b s ≡ false → has_byte b t ≡ false → has_byte b (s ++ t) ≡ false
-unfolding has_byte
 nor_behind b [] t h k = k
 nor_behind b (x ∷ s) t h k = let none = neither (eqb x b) (has_byte b s) h in rw none.0 (nor_behind b s t none.1 k)
 
@@ -56,7 +55,7 @@ line_read (field ∷ next ∷ row) some h =
 
 line_plain : (b : ℕ) → eqb 0x7C b ≡ false → ((field : List ℕ) → is_field field ≡ true → has_byte b field ≡ false)
     → (row : List (List ℕ)) → are_fields row ≡ true → has_byte b (line row) ≡ false
-unfolding are_fields parts_joined has_byte
+unfolding are_fields parts_joined
 line_plain b bar each [] h = refl
 line_plain b bar each (field ∷ []) h = each field (and_left (is_field field) true h)
 line_plain b bar each (field ∷ next ∷ row) h =
@@ -87,7 +86,7 @@ record Ends (s : List ℕ) : Type 0 where
   no_lf : last_of s ≡ 0x0A → ⊥
 
 last_plain : (s : List ℕ) → 0 < length s → has_byte 0x0A s ≡ false → last_of s ≡ 0x0A → ⊥
-unfolding last_of has_byte
+unfolding last_of
 last_plain [] some h e = omega (arith, some)
 last_plain (b ∷ []) some h e = eqb-false b 0x0A (neither (eqb b 0x0A) false h).0 e
 last_plain (b ∷ c ∷ s) some h e = last_plain (c ∷ s) (omega arith) (neither (eqb b 0x0A) (has_byte 0x0A (c ∷ s)) h).1 e

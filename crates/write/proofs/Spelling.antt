@@ -1,18 +1,18 @@
 -- Numbers that are spelled: how many digits they have, and what they read back as.
 -- Assumes nothing.
 use mathlib.Core.Path.{◌≡◌, refl, sym, ◌∙◌, ap}
-use mathlib.Core.Bool.{true, false≢true}
+use mathlib.Core.Bool.{true}
 use mathlib.Core.List.{List, [], ◌∷◌, ◌++◌}
 use Prim.Native.Nat.{ℕ, zero, suc, ◌+◌, ◌*◌, ◌-◌, ◌/◌, ◌%◌, ◌^◌, ◌≤◌, ◌<◌}
 use native.Mathlib.Numerals.{add-one}
 use native.Mathlib.Omega.{arith}
 use borrow.Author.Tests.{ltb-true, ltb-false, lt-ltb, le-ltb, le-leb}
+use Rattle.std.proofs.Math.Nat.{one-le-pow}
 use lib.Dec.{ltb, leb}
 use lib.ListN.{length, length-append}
 use Rattle.text.specs.Bytes.{digit}
-use Rattle.text.specs.Number.{number, number_after, is_number, value_of}
-use Rattle.text.specs.declared.number.Number.{Number}
-use Rattle.text.specs.declared.number.Number.TheVariants.{Of, Not}
+use Rattle.text.specs.Number.{number, number_after}
+use Rattle.std.specs.Prelude.{Some}
 use Rattle.text.proofs.Branches.{either_way, both_yes}
 use Rattle.text.proofs.Digits.{ten_more}
 use Rattle.write.specs.Spelled.{digits, places_within, places_of, SpelledIsRead, DigitsAreRead}
@@ -30,29 +30,21 @@ digit_is : (d : ℕ) → d < 10 → digit (0x30 + d) ≡ true
 unfolding digit
 digit_is d h = both_yes (leb 0x30 (0x30 + d)) (leb (0x30 + d) 0x39) (le-leb 0x30 (0x30 + d) (omega arith)) (le-leb (0x30 + d) 0x39 (omega arith))
 
-pub of_same : (n m : ℕ) → ◌≡◌ {A = Number} (Of n) (Of m) → n ≡ m
-unfolding value_of
-of_same n m e = ap value_of e
-
-pub not_of : (m : ℕ) → ◌≡◌ {A = Number} Not (Of m) → ⊥
-unfolding is_number
-not_of m e = false≢true (ap is_number e)
-
-digit_more : (n m d : ℕ) (s : List ℕ) → d < 10 → number_after n s ≡ Of m → number_after n (s ++ ((0x30 + d) ∷ [])) ≡ Of (m * 10 + d)
+digit_more : (n m d : ℕ) (s : List ℕ) → d < 10 → number_after n s ≡ Some m → number_after n (s ++ ((0x30 + d) ∷ [])) ≡ Some (m * 10 + d)
 unfolding number_after
-digit_more n m d [] h e = rw (digit_is d h) (ap Of (let same = of_same n m e in omega arith))
+digit_more n m d [] h e = rw (digit_is d h) (ap Some (let same : n ≡ m = cc in omega arith))
 digit_more n m d (b ∷ s) h e =
     either_way (digit b)
     (λ is. rw is (digit_more (n * 10 + (b - 0x30)) m d s h (rw is at e)))
-    (λ not. absurd (not_of m (rw not at e)))
+    (λ not. let never = rw not at e in cc)
 
-pub digits_read : (places n : ℕ) → n < 10 ^ places → number_after 0 (digits places n) ≡ Of n
+pub digits_read : (places n : ℕ) → n < 10 ^ places → number_after 0 (digits places n) ≡ Some n
 unfolding digits number_after
-digits_read zero n h = ap Of (omega (arith, h))
+digits_read zero n h = ap Some (omega (arith, h))
 digits_read (suc places) n h =
     let tens = ten_more places in
     let last : n % 10 < 10 = omega arith in
-    digit_more 0 (n / 10) (n % 10) (digits places (n / 10)) last (digits_read places (n / 10) (omega arith)) ∙ ap Of (omega arith)
+    digit_more 0 (n / 10) (n % 10) (digits places (n / 10)) last (digits_read places (n / 10) (omega arith)) ∙ ap Some (omega arith)
 
 -- how many digits there are does not depend on what is more than enough
 places_enough : (f g n : ℕ) → n ≤ f → n ≤ g → places_within f n ≡ places_within g n
@@ -87,6 +79,16 @@ some_place n =
 pub tens : (k : ℕ) → 10 ^ suc k ≡ 10 ^ k * 10
 tens k = ap (λ (j : ℕ). 10 ^ j) (sym (add-one k)) ∙ ten_more k
 
+-- by the power of ten that it reaches
+pub some_places : (k n : ℕ) → 10 ^ k ≤ n → n < 10 * 10 ^ k → places_of n ≡ k + 1
+some_places zero n low high = one_place n (omega (arith, high))
+some_places (suc k) n low high =
+    let more = tens k in
+    let some : 10 ≤ n = omega (arith, low, one-le-pow k 10 (omega arith)) in
+    let rest = some_places k (n / 10) (omega arith) (omega arith) in
+    let all = one_place_more n some in
+    omega arith
+
 places_within_lem : (f n : ℕ) → n ≤ f → n < 10 ^ places_within f n
 unfolding places_within
 places_within_lem zero n h = omega arith
@@ -113,7 +115,7 @@ places_at_most (suc (suc k)) n h l =
     rw (one_place_more n (ltb-false n 10 large)) (omega arith))
 
 -- what was written reads back
-read_within : (least most places n : ℕ) → least ≤ places → places ≤ most → places ≤ 18 → n < 10 ^ places → number least most (digits places n) ≡ Of n
+read_within : (least most places n : ℕ) → least ≤ places → places ≤ most → places ≤ 18 → n < 10 ^ places → number least most (digits places n) ≡ Some n
 unfolding number
 read_within least most places n l m e h =
     rw (digits_long places n, le-leb least places l, le-leb places most m, le-leb places 18 e) (digits_read places n h)
@@ -125,27 +127,3 @@ spelled_is_read least most n l one m h =
 
 pub digits_are_read : DigitsAreRead
 digits_are_read places n e h = read_within places places places n (omega arith) (omega arith) e h
-
--- a number of 64 bits has at most 20 digits
-pub word_places : (n : ℕ) → n < 2 ^ 64 → places_of n ≤ 20
-word_places n h = places_at_most 20 n (omega arith) (omega arith)
-
--- by how large a number is
-pub two_places : (n : ℕ) → 10 ≤ n → n < 100 → places_of n ≡ 2
-two_places n h l = one_place_more n h ∙ ap suc (one_place (n / 10) (omega arith))
-
-pub three_places : (n : ℕ) → 100 ≤ n → n < 1000 → places_of n ≡ 3
-three_places n h l = one_place_more n (omega arith) ∙ ap suc (two_places (n / 10) (omega arith) (omega arith))
-
-pub four_places : (n : ℕ) → 1000 ≤ n → n < 10000 → places_of n ≡ 4
-four_places n h l = one_place_more n (omega arith) ∙ ap suc (three_places (n / 10) (omega arith) (omega arith))
-
-pub four_more : (n : ℕ) → 10000 ≤ n → places_of n ≡ 4 + places_of (n / 10000)
-four_more n h =
-    let a = one_place_more n (omega arith) in
-    let b = one_place_more (n / 10) (omega arith) in
-    let c = one_place_more (n / 10 / 10) (omega arith) in
-    let d = one_place_more (n / 10 / 10 / 10) (omega arith) in
-    let all : n / 10 / 10 / 10 / 10 ≡ n / 10000 = omega arith in
-    let last = ap (λ (k : ℕ). places_of k) all in
-    omega arith

@@ -3,3 +3,4 @@ pub mod Spelled
 pub mod Money
 pub mod Files
 pub mod Written
+pub mod Writer

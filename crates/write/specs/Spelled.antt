@@ -1,7 +1,7 @@
 -- How numbers are spelled: decimal digits, 30 to 39, the first one first.
 use Rattle.std.specs.Prelude.{◌≡◌, cond, List, [], ◌∷◌, ◌++◌, ℕ, zero, suc, ◌+◌, ◌/◌, ◌%◌, ◌^◌, ◌≤◌, ◌<◌, ltb}
 use Rattle.text.specs.Number.{number}
-use Rattle.text.specs.declared.number.Number.TheVariants.{Of}
+use Rattle.std.specs.Prelude.{Some}
 
 -- The last digits of a number, so many of them.
 unfoldable pub digits : ℕ → ℕ → List ℕ
@@ -22,7 +22,7 @@ spelled n = digits (places_of n) n
 
 -- What is spelled reads back as the number, wherever its field has room for its digits; and so do its last digits where they are all.
 abbrev pub SpelledIsRead : Type 0
-SpelledIsRead = (least most n : ℕ) → least ≤ 1 → 1 ≤ most → most ≤ 18 → n < 10 ^ most → number least most (spelled n) ≡ Of n
+SpelledIsRead = (least most n : ℕ) → least ≤ 1 → 1 ≤ most → most ≤ 18 → n < 10 ^ most → number least most (spelled n) ≡ Some n
 
 abbrev pub DigitsAreRead : Type 0
-DigitsAreRead = (places n : ℕ) → places ≤ 18 → n < 10 ^ places → number places places (digits places n) ≡ Of n
+DigitsAreRead = (places n : ℕ) → places ≤ 18 → n < 10 ^ places → number places places (digits places n) ≡ Some n

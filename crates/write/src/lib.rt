@@ -3,9 +3,8 @@
 
 pub mod grosze;
 
-ghost use Rattle.std.specs.Prelude.{◌≡◌, [], ◌∷◌, ◌++◌, ◌+◌, ◌≤◌, length};
+ghost use Rattle.std.specs.Prelude.{◌≡◌, [], ◌∷◌, ◌++◌, ◌≤◌, length};
 ghost use Rattle.write.specs.Spelled.{digits, places_of, spelled};
-ghost use Rattle.write.specs.Written.{put_at};
 
 // "30 when the lent output is too short"
 pub const OUTPUT_TOO_SHORT: u64 = 30;
@@ -17,118 +16,123 @@ pub enum Writing {
     Refused(u64),
 }
 
-// Puts a text at a place, and answers the place behind it.
-pub fn put_text(output: &mut [u8], at: usize, text: &[u8]) -> usize
-    requires { at + length text.now ≤ length output.old }
-    ensures value { result ≡ at + length text.now }
-    ensures output_after { output.new ≡ put_at at text.now output.old }
-{
-    let n = text.len();
-    let mut i = 0;
-    while i < n {
-        output[at + i] = text[i];
-        i += 1;
-    }
-    at + n
+// An output that is written from its start on, and where the next text goes.
+#[derive(Drop)]
+pub struct Writer<'a> {
+    output: &'a mut [u8],
+    at: usize,
 }
 
-// Puts a field and the bar behind it at a place, and answers the place behind them.
-pub fn put_field(output: &mut [u8], at: usize, field: &[u8]) -> usize
-    requires { at + length (field.now ++ (0x7C ∷ [])) ≤ length output.old }
-    ensures value { result ≡ at + length (field.now ++ (0x7C ∷ [])) }
-    ensures output_after { output.new ≡ put_at at (field.now ++ (0x7C ∷ [])) output.old }
-{
-    let behind = put_text(output, at, field);
-    put_byte(output, behind, b'|')
+impl<'a> Writer<'a> {
+    ghost use Rattle.write.specs.Writer.{HasRoom, Writes};
+
+    // A writer at the start of an output.
+    pub fn new(output: &'a mut [u8]) -> Writer<'a>
+        ensures same_output { result.output.ghost_name ≡ output.entry.ghost_name }
+        ensures output_after { result.output.now ≡ output.old }
+        ensures place { result.at ≡ 0 }
+    {
+        Writer { output, at: 0 }
+    }
+
+    // Puts a text.
+    pub fn put_text(&mut self, text: &[u8])
+        requires { HasRoom text.now self.old }
+        ensures { Writes text.now self.old self.new }
+    {
+        let end = self.at + text.len();
+        self.output[self.at..end].copy_from_slice(text);
+        self.at = end;
+    }
+
+    // Puts a field and the bar behind it.
+    #[tactic(auto, using(crate::proofs::Pieces::pieces))]
+    pub fn put_field(&mut self, field: &[u8])
+        requires { HasRoom (field.now ++ (0x7C ∷ [])) self.old }
+        ensures { Writes (field.now ++ (0x7C ∷ [])) self.old self.new }
+    {
+        self.put_bytes(field);
+        self.put_byte(b'|');
+    }
+
+    // Puts the last digits of a number, so many of them.
+    #[tactic(auto, using(crate::proofs::Spelling::digits_long))]
+    pub fn put_digits(&mut self, places: usize, n: u64)
+        requires { HasRoom (digits places n) self.old }
+        ensures { Writes (digits places n) self.old self.new }
+    {
+        let end = self.at + places;
+        fill_digits(&mut self.output[self.at..end], n);
+        self.at = end;
+    }
+
+    // Puts a number without leading zeros.
+    pub fn put_number(&mut self, n: u64)
+        requires { HasRoom (spelled n) self.old }
+        ensures { Writes (spelled n) self.old self.new }
+    {
+        self.put_digits(places_of(n), n);
+    }
+
+    // Puts a number and the bar behind it.
+    #[tactic(auto, using(crate::proofs::Pieces::pieces))]
+    pub fn put_number_field(&mut self, n: u64)
+        requires { HasRoom (spelled n ++ (0x7C ∷ [])) self.old }
+        ensures { Writes (spelled n ++ (0x7C ∷ [])) self.old self.new }
+    {
+        self.put_number(n);
+        self.put_byte(b'|');
+    }
+
+    // Puts a text of any length. That of put_text is mostly known where it is put.
+    fn put_bytes(&mut self, text: &[u8])
+        requires { HasRoom text.now self.old }
+        ensures { Writes text.now self.old self.new }
+    {
+        let end = self.at + text.len();
+        copy(&mut self.output[self.at..end], text);
+        self.at = end;
+    }
+
+    // Puts a byte.
+    fn put_byte(&mut self, byte: u8)
+        requires { HasRoom (byte ∷ []) self.old }
+        ensures { Writes (byte ∷ []) self.old self.new }
+    {
+        self.output[self.at] = byte;
+        self.at += 1;
+    }
 }
 
-// Puts the last digits of a number at a place, so many of them, and answers the place behind them.
-pub fn put_digits(output: &mut [u8], at: usize, places: usize, n: u64) -> usize
-    requires { at + places ≤ length output.old }
-    ensures value { result ≡ at + places }
-    ensures output_after { output.new ≡ put_at at (digits places n) output.old }
-{
-    let mut left = places;
-    let mut rest = n;
-    while 0 < left {
-        left -= 1;
-        output[at + left] = b'0' + (rest % 10) as u8;
-        rest /= 10;
-    }
-    at + places
-}
-
-// Puts a number at a place, without leading zeros, and answers the place behind it. Most have few digits, and how many is then known where they are put.
-pub fn put_number(output: &mut [u8], at: usize, n: u64) -> usize
-    requires { at + length (spelled n) ≤ length output.old }
-    ensures value { result ≡ at + length (spelled n) }
-    ensures output_after { output.new ≡ put_at at (spelled n) output.old }
-{
-    if n < 10 {
-        return put_digits(output, at, 1, n);
-    }
-    if n < 100 {
-        return put_digits(output, at, 2, n);
-    }
-    if n < 1_000 {
-        return put_digits(output, at, 3, n);
-    }
-    if n < 10_000 {
-        return put_digits(output, at, 4, n);
-    }
-    put_digits(output, at, places_of(n), n)
-}
-
-// Puts a number and the bar behind it at a place, and answers the place behind them.
-pub fn put_number_field(output: &mut [u8], at: usize, n: u64) -> usize
-    requires { at + length (spelled n ++ (0x7C ∷ [])) ≤ length output.old }
-    ensures value { result ≡ at + length (spelled n ++ (0x7C ∷ [])) }
-    ensures output_after { output.new ≡ put_at at (spelled n ++ (0x7C ∷ [])) output.old }
-{
-    let behind = put_number(output, at, n);
-    put_byte(output, behind, b'|')
-}
-
-// How many digits a number has. Most have few, and are asked for no division.
+// How many digits a number has.
+#[tactic(auto, using(crate::proofs::Spelling::some_places, crate::proofs::Spelling::one_place))]
 pub fn places_of(n: u64) -> usize
     ensures value { result ≡ places_of n }
     ensures at_most { result ≤ 20 }
 {
-    if n < 10 {
-        return 1;
-    }
-    if n < 100 {
-        return 2;
-    }
-    if n < 1_000 {
-        return 3;
-    }
-    if n < 10_000 {
-        return 4;
-    }
-    4 + count_places(n / 10_000)
+    n.checked_ilog10().map_or(1, |k| k as usize + 1)
 }
 
-// Puts a byte at a place, and answers the place behind it.
-fn put_byte(output: &mut [u8], at: usize, byte: u8) -> usize
-    requires { at + 1 ≤ length output.old }
-    ensures value { result ≡ at + 1 }
-    ensures output_after { output.new ≡ put_at at (byte ∷ []) output.old }
+// Copies a text into a slice of its length.
+// Kept: 4b: copy_from_slice calls memmove where a length is not known, and the archive asks no more of the C library than memcpy and memset.
+fn copy(place: &mut [u8], text: &[u8])
+    requires { length place.old ≡ length text.now }
+    ensures { place.new ≡ text.now }
 {
-    output[at] = byte;
-    at + 1
+    for (i, byte) in text.iter().enumerate() {
+        place[i] = *byte;
+    }
 }
 
-// How many digits a number has, counted one by one.
-fn count_places(n: u64) -> usize
-    ensures value { result ≡ places_of n }
-    ensures at_most { result ≤ 20 }
+// Fills a slice with the last digits of a number.
+#[tactic(auto, using(crate::proofs::Pieces::digit_before), unfolding(crate::specs::Spelled::digits))]
+fn fill_digits(places: &mut [u8], n: u64)
+    ensures { places.new ≡ digits (length places.old) n }
 {
-    let mut places = 1;
     let mut rest = n;
-    while 10 <= rest {
+    // Kept: 3c: tried, and the proof did not close: after iter_mut().rev() nothing is known of what the places hold.
+    for i in (0..places.len()).rev() {
+        places[i] = b'0' + (rest % 10) as u8;
         rest /= 10;
-        places += 1;
     }
-    places
 }

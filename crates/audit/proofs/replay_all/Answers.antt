@@ -1,40 +1,21 @@
 -- `audit::replay_all`: the calls so far, and what is left of the journal, are the whole.
-use Rattle.audit.proofs.JournalLaws.{fields_there}
-use Rattle.audit.proofs.CallByCall.{starts, entry_left, room_left, next_fits, turns, all_made}
+use mathlib.Core.Path.{◌∙◌}
 use native.Mathlib.Omega.{arith}
-use borrow.Author.Rules.{rules}
+use lib.Seq.{length-take-le}
+use Rattle.audit.proofs.CallByCall.{entry_left, turns, all_made}
 use Rattle.audit.proofs.replay_all.Goals as goal
 
-pub loop-i-init : goal.loop-i-init
-loop-i-init c = starts c.requires
+pub at_start-entry-requires : goal.at_start-entry-requires
+at_start-entry-requires c =
+    let long = length-take-le c.args.n c.args.answers.now c.requires.enough in
+    entry_left c.loop-answer.invariant (omega arith) c.rest.ensures
 
-pub play-reply-requires : goal.play-reply-requires
-play-reply-requires c =
-    entry_left c.loop-i.invariant c.loop-i-test.true c.rest-entry.ensures
-
-pub bounds-answers-i : goal.bounds-answers-i
-bounds-answers-i c =
-    let room = room_left c.loop-i.invariant c.loop-i-test.true in
-    search rules
-
-pub entry_length-at-requires : goal.entry_length-at-requires
-entry_length-at-requires c =
-    fields_there _ (entry_left c.loop-i.invariant c.loop-i-test.true c.rest-entry.ensures)
-
-pub overflow_add-at : goal.overflow_add-at
-overflow_add-at c =
-    let fits = next_fits c.loop-i.invariant c.loop-i-test.true c.rest-entry.ensures c.entry_length-at.ensures in
-    omega arith
-
-pub loop-i-preserved : goal.loop-i-preserved
-loop-i-preserved c =
-    turns c.loop-i.invariant c.loop-i-test.true c.rest-entry.ensures c.entry_length-at.ensures c.play-reply.ensures
-
-pub shape_of-memory : goal.shape_of-memory
-shape_of-memory c = c.loop-i.invariant.memory_as_long
-
-pub shape_of-answers : goal.shape_of-answers
-shape_of-answers c = c.loop-i.invariant.answers_as_long
+pub loop-answer-preserved : goal.loop-answer-preserved
+loop-answer-preserved c =
+    let long = length-take-le c.args.n c.args.answers.now c.requires.enough in
+    rw c.length-at.ensures.value (turns c.loop-answer.invariant (omega arith) (c.at_start-entry.ensures ∙ c.rest.ensures) c.play.ensures)
 
 pub returns : goal.returns
-returns c = all_made c.requires c.loop-i.invariant (omega arith)
+returns c =
+    let long = length-take-le c.args.n c.args.answers.now c.requires.enough in
+    all_made c.requires c.loop-answer.invariant (omega arith)

@@ -1,16 +1,14 @@
 -- What a pass over rows finds of faulty orders, as code adds it up.
-use Rattle.std.specs.Prelude.{◌≡◌, ◌&&◌, List, [], ◌∷◌, ◌++◌, ℕ, suc, ◌+◌, length}
+use Rattle.std.specs.Prelude.{◌&&◌, List, [], ◌∷◌, ◌++◌, ℕ, suc, ◌+◌}
 use Rattle.text.specs.Bytes.{between}
 use Rattle.text.specs.Quoted.{bytes}
 use Rattle.model.specs.declared.Row.{Row}
 use Rattle.model.specs.declared.State.{State}
 use Rattle.model.specs.declared.State.TheVariants.{Open, Posted, Paid, Faulty, Undelivered, Withdrawn}
 use Rattle.write.specs.Spelled.{places_of, spelled}
-use Rattle.write.specs.Written.{put_at}
 use Rattle.report.specs.Ope.{before_faulty, faulty_from, code_for, ope_records}
 use Rattle.report.specs.Inner.Pieces.{start_text, opening_text, behind_header}
 use Rattle.report.specs.declared.ope.Found.{Found}
-use Rattle.report.specs.declared.ope.Put.{Put}
 
 -- One faulty order more: its record has the next running number, and nine bytes besides the two numbers.
 abbrev pub found_fault : List ℕ → Found → ℕ → ℕ → Found
@@ -33,11 +31,9 @@ unfoldable pub found_in : List ℕ → Found → ℕ → List Row → Found
 found_in codes found number [] = found
 found_in codes found number (row ∷ rows) = found_in codes (found_order codes found number row.state) (suc number) rows
 
--- An order's record was put, if it has one, and the next goes behind it.
-pub record PutOrder (codes : List ℕ) (number : ℕ) (state : State) (before : Put) (output : List ℕ) (after : Put) (output' : List ℕ) : Type 0 where
-  pub text : output' ≡ put_at before.at (behind_header (ope_records codes before.running (before_faulty number state []))) output
-  pub place : after.at ≡ before.at + length (behind_header (ope_records codes before.running (before_faulty number state [])))
-  pub next : after.running ≡ before.running + length (before_faulty number state [])
+-- The record of an order, if it is a faulty one.
+abbrev pub record_in : List ℕ → ℕ → ℕ → State → List ℕ
+record_in codes running number state = behind_header (ope_records codes running (before_faulty number state []))
 
 -- The records of some rows, and the whole report around them.
 abbrev pub records_in : List ℕ → List Row → List ℕ

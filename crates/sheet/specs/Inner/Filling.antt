@@ -1,5 +1,5 @@
 -- How code goes from shipment to shipment, fills rows and adds them up. Only the contracts below `sheet` need these.
-use Rattle.std.specs.Prelude.{◌≡◌, true, cond, List, map, ℕ, zero, suc, ◌+◌, ◌≤◌, ◌<◌, eqb, leb, ltb, length, set}
+use Rattle.std.specs.Prelude.{◌≡◌, Bool, true, cond, List, map, ℕ, zero, suc, ◌+◌, ◌≤◌, ◌<◌, eqb, leb, ltb, length, set}
 use Rattle.std.proofs.Math.Option.{Option, some, none}
 use Rattle.money.specs.Money.{WithinTotal}
 use Rattle.model.specs.Shipment.{most_shipments, most_rows}
@@ -7,8 +7,7 @@ use Rattle.model.specs.Book.{Book, rows_in}
 use Rattle.model.specs.Sound.{shipments_sound}
 use Rattle.memory.specs.Layout.{size}
 use Rattle.memory.specs.Read.{orders_at, shipment_at, shipments_from, shipments_in, Sits}
-use Rattle.sheet.specs.declared.Amounts.{Amounts}
-use Rattle.sheet.specs.declared.Fees.{Fees}
+use Rattle.sheet.specs.declared.division.Division.{Division}
 use Rattle.sheet.specs.declared.Line.{Line}
 use Rattle.sheet.specs.declared.Plan.{Plan}
 use Rattle.sheet.specs.declared.Sheeting.{Sheeting}
@@ -17,7 +16,8 @@ use Rattle.sheet.specs.declared.SheetRow.{SheetRow}
 use Rattle.sheet.specs.declared.Totals.{Totals}
 use Rattle.sheet.specs.declared.total.Adding.{Adding}
 use Rattle.sheet.specs.declared.total.Adding.TheVariants.{Added, Above}
-use Rattle.sheet.specs.Sheet.{row_for, plus_all, within_cap}
+use Rattle.sheet.specs.Sheet.{row_for, plus_all, four_within, within_cap}
+use Rattle.sheet.specs.Inner.Parts.{amounts_in, fees_in}
 
 -- n shipments are left of a sound book, from head i and row k on.
 pub record Stands (m : List ℕ) (i k n : ℕ) : Type 0 where
@@ -33,17 +33,21 @@ pub record Within (a b c d : ℕ) : Type 0 where
   pub third : WithinTotal c
   pub fourth : WithinTotal d
 
-abbrev pub AmountsWithin : Amounts → Type 0
-AmountsWithin a = Within a.accepted.0 a.held.0 a.free.0 a.left.0
-
-abbrev pub FeesWithin : Fees → Type 0
-FeesWithin a = Within a.accepted.0 a.held.0 a.free.0 a.left.0
+abbrev pub DivisionWithin : Division → Type 0
+DivisionWithin d = Within d.accepted d.held d.free d.left
 
 abbrev pub TotalsWithin : Totals → Type 0
-TotalsWithin totals = AmountsWithin totals.amounts × FeesWithin totals.fees
+TotalsWithin totals = DivisionWithin (amounts_in totals.amounts) × DivisionWithin (fees_in totals.fees)
 
 abbrev pub RowWithin : SheetRow → Type 0
-RowWithin row = AmountsWithin row.amounts × FeesWithin row.fees
+RowWithin row = DivisionWithin (amounts_in row.amounts) × DivisionWithin (fees_in row.fees)
+
+abbrev pub division_within : Division → Bool
+division_within d = four_within d.accepted d.held d.free d.left
+
+-- The sums of two divisions, each added to its own.
+abbrev pub plus_division : Division → Division → Division
+plus_division a b = record { accepted = a.accepted + b.accepted; held = a.held + b.held; free = a.free + b.free; left = a.left + b.left }
 
 -- Totals with all rows added, or a total is above the cap.
 unfoldable pub adding_of : Totals → List SheetRow → Adding

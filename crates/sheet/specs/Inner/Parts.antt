@@ -8,7 +8,8 @@ use Rattle.model.specs.declared.Row.{Row}
 use Rattle.sheet.specs.declared.Amounts.{Amounts}
 use Rattle.sheet.specs.declared.Fees.{Fees}
 use Rattle.sheet.specs.declared.row.Parts.{Parts}
-use Rattle.sheet.specs.Sheet.{left, Division}
+use Rattle.sheet.specs.declared.division.Division.{Division}
+use Rattle.sheet.specs.Sheet.{left}
 
 -- What an order of a Paired shipment holds of a money.
 abbrev pub held_by : Money → Row → ℕ
@@ -69,3 +70,9 @@ amounts_from d = record { accepted = amount d.accepted; held = amount d.held; fr
 
 abbrev pub fees_from : Division → Fees
 fees_from d = record { accepted = fee d.accepted; held = fee d.held; free = fee d.free; left = fee d.left }
+
+abbrev pub amounts_in : Amounts → Division
+amounts_in a = record { accepted = a.accepted.0; held = a.held.0; free = a.free.0; left = a.left.0 }
+
+abbrev pub fees_in : Fees → Division
+fees_in a = record { accepted = a.accepted.0; held = a.held.0; free = a.free.0; left = a.left.0 }

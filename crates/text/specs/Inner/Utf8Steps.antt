@@ -1,9 +1,8 @@
 -- What the private steps of `is_well_formed` promise. No public contract cites it.
-use Rattle.std.specs.Prelude.{◌≡◌, List, ℕ, ◌≤◌, length, drop}
+use Rattle.std.specs.Prelude.{◌≡◌, List, ℕ, ◌<◌, length}
 use Rattle.text.specs.Utf8.{well_formed}
 
--- A step from place i to place r passes no fault and makes none: what is left is as well formed as before.
-pub record Past (s : List ℕ) (i r : ℕ) : Type 0 where
-  pub onward : i ≤ r
-  pub within : r ≤ length s
-  pub same : well_formed (drop r s) ≡ well_formed (drop i s)
+-- A step from a text to one further on passes no fault and makes none: what is left is as well formed as before.
+pub record Past (s t : List ℕ) : Type 0 where
+  pub shorter : length t < length s
+  pub same : well_formed t ≡ well_formed s

@@ -13,16 +13,16 @@ rows_of-k-requires c =
 
 pub overflow_sub-k : goal.overflow_sub-k
 overflow_sub-k c =
-    from_within _ _ c.args.name c.args.terms c.args.n c.args.faulty c.args.kept.now c.requires.0 c.if-i-ge-MOST_SHIPMENTS.false c.rows_of-k.ensures
+    from_within _ _ c.args.name c.args.terms c.args.accepted.orders c.args.accepted.faulty c.args.kept.now c.requires.0 c.if-i-ge-MOST_SHIPMENTS.false c.rows_of-k.ensures.value
 
 pub returns-then-k-n : goal.returns-then-k-n
 returns-then-k-n c =
-    no_row_left _ _ _ _ _ _ _ c.requires.0 c.if-i-ge-MOST_SHIPMENTS.false c.rows_of-k.ensures c.requires.1 c.if-k-n.true
+    no_row_left _ _ _ _ _ _ _ c.requires.0 c.if-i-ge-MOST_SHIPMENTS.false c.rows_of-k.ensures.value c.requires.1 c.if-k-n.true
 
 pub enter-requires : goal.enter-requires
 enter-requires c =
-    fits_behind _ _ _ _ _ c.args.faulty _ c.requires.0 c.if-i-ge-MOST_SHIPMENTS.false c.rows_of-k.ensures c.requires.1 c.if-k-n.false
+    fits_behind _ _ _ _ _ c.args.accepted.faulty _ c.requires.0 c.if-i-ge-MOST_SHIPMENTS.false c.rows_of-k.ensures.value c.requires.1 c.if-k-n.false
 
 pub returns : goal.returns
 returns c =
-    entered_behind _ _ _ _ _ _ _ c.requires.0 c.if-i-ge-MOST_SHIPMENTS.false c.rows_of-k.ensures c.requires.1 c.if-k-n.false c.enter.ensures
+    entered_behind _ _ _ _ _ _ _ c.requires.0 c.if-i-ge-MOST_SHIPMENTS.false c.rows_of-k.ensures.value c.requires.1 c.if-k-n.false c.enter.ensures

@@ -1,7 +1,7 @@
 -- `book::enter::take_records` goes by the records, and enters the orders that were kept.
-use mathlib.Core.Path.{◌≡◌, refl, sym, ap, ◌∙◌}
+use mathlib.Core.Path.{◌≡◌, refl, ap, ◌∙◌}
 use Rattle.epe.specs.Profile.{terms_for}
-use Rattle.contents.specs.Steps.{records_of}
+use Rattle.contents.specs.Steps.{Records, records_of, records_behind}
 use Rattle.contents.specs.declared.stated.Stated.{Stated}
 use Rattle.book.proofs.IntakeActs.{stated_as_set, stated_fit, opened, counted, contents_accepted, records_refused}
 use Rattle.book.proofs.enter.take_records.Goals as goal
@@ -9,20 +9,35 @@ use Rattle.book.proofs.enter.take_records.Goals.{Start}
 
 -- the terms that the header states are those of the name's kind
 is_terms : (c : Start) → c.args.stated.terms ≡ terms_for c.args.profile c.args.name.kind
-is_terms c = stated_as_set c.args.profile c.args.file.now c.requires.5 c.requires.4
+is_terms c = stated_as_set c.args.profile c.args.file.now c.requires.6 c.requires.4
+
+-- what the records come to is what they come to behind the header
+are_behind : (c : Start) {records : Records}
+    → records ≡ records_of c.args.profile.fields c.args.stated.count c.args.stated.sum c.args.stated.terms c.args.file.now
+    → records ≡ records_behind c.args.profile c.args.file.now
+are_behind c told =
+    told ∙ ap (λ (stated : Stated). records_of c.args.profile.fields stated.count stated.sum stated.terms c.args.file.now) c.requires.6
 
 pub judge_records-requires : goal.judge_records-requires
-judge_records-requires c =
-    (refl, stated_fit c.args.profile c.args.name c.requires.0 (is_terms (goal.at.judge_records-requires c).Start))
+judge_records-requires c = (refl, stated_fit c.args.profile c.args.name c.requires.0 (is_terms (goal.at.judge_records-requires c).Start))
 
 pub enter_behind-requires : goal.enter_behind-requires
 enter_behind-requires c =
-    (opened _ _ c.args.profile c.args.name c.args.file.now c.requires.0 c.requires.1 c.requires.2 c.requires.3 c.requires.4 (is_terms (goal.at.enter_behind-requires c).Start), counted _ _ c.args.profile c.args.name c.args.file.now c.requires.0 c.requires.1 c.requires.2 c.requires.3 c.requires.4 (is_terms (goal.at.enter_behind-requires c).Start) (ap (λ (stated : Stated). stated.verdict) (sym c.requires.5) ∙ c.requires.6) (c.judge_records.ensures ∙ ap (λ (stated : Stated). records_of c.args.profile.fields stated.count stated.sum stated.terms c.args.file.now) c.requires.5) c.in-Accepted.is)
+    let start = (goal.at.enter_behind-requires c).Start in (
+      opened _ _ c.args.profile c.args.name c.args.file.now c.requires.0 c.requires.1 c.requires.2 c.requires.3 c.requires.4 (is_terms start),
+      counted _ _ c.args.profile c.args.name c.args.file.now c.requires.0 c.requires.1 c.requires.2 c.requires.3 c.requires.4 (is_terms start) c.requires.5
+          (are_behind start c.in-Ok.ensures) refl,
+    )
 
-pub returns-in-Accepted : goal.returns-in-Accepted
-returns-in-Accepted c =
-    contents_accepted _ _ c.args.profile c.args.name c.args.file.now c.requires.0 c.requires.1 c.requires.2 c.requires.3 c.requires.4 (is_terms (goal.at.returns-in-Accepted c).Start) (ap (λ (stated : Stated). stated.verdict) (sym c.requires.5) ∙ c.requires.6) (c.judge_records.ensures ∙ ap (λ (stated : Stated). records_of c.args.profile.fields stated.count stated.sum stated.terms c.args.file.now) c.requires.5) c.in-Accepted.is c.enter_behind.ensures
+pub returns-in-Ok : goal.returns-in-Ok
+returns-in-Ok c =
+    let start = (goal.at.returns-in-Ok c).Start in
+    contents_accepted _ _ c.args.profile c.args.name c.args.file.now c.requires.0 c.requires.1 c.requires.2 c.requires.3 c.requires.4 (is_terms start)
+    c.requires.5 (are_behind start c.in-Ok.ensures) refl c.enter_behind.ensures
 
-pub returns-in-Refused : goal.returns-in-Refused
-returns-in-Refused c =
-    records_refused _ _ c.args.profile c.args.name c.args.file.now c.requires.0 c.requires.1 c.requires.2 c.requires.3 c.requires.4 (is_terms (goal.at.returns-in-Refused c).Start) (ap (λ (stated : Stated). stated.verdict) (sym c.requires.5) ∙ c.requires.6) (c.judge_records.ensures ∙ ap (λ (stated : Stated). records_of c.args.profile.fields stated.count stated.sum stated.terms c.args.file.now) c.requires.5) c.in-Refused.is
+pub returns-in-Err : goal.returns-in-Err
+returns-in-Err c =
+    let start = (goal.at.returns-in-Err c).Start in
+    rw c.from.ensures
+    (records_refused _ _ c.args.profile c.args.name c.args.file.now c.requires.0 c.requires.1 c.requires.2 c.requires.3 c.requires.4 (is_terms start)
+    c.requires.5 (are_behind start c.in-Err.ensures) refl)

@@ -3,9 +3,9 @@ use Rattle.epe.specs.Name.{name_questions}
 use Rattle.epe.proofs.Asking.{asking}
 use Rattle.epe.proofs.name.judge_parts.Goals as goal
 
-pub returns-then-not-has_parts : goal.returns-then-not-has_parts
+pub returns-then-not-has : goal.returns-then-not-has
 unfolding name_questions
-returns-then-not-has_parts c = λ meant is. rw is.parts (search asking depth 24)
+returns-then-not-has c = λ meant is. rw is.parts (search asking depth 24)
 
 pub returns-then-not-starts_epe : goal.returns-then-not-starts_epe
 unfolding name_questions

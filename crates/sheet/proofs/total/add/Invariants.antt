@@ -2,8 +2,5 @@
 use Rattle.sheet.proofs.Totalling.{Summing}
 use Rattle.sheet.proofs.total.add.Given as goal
 
-abbrev pub invariant-loop-left : goal.invariant-loop-left
-invariant-loop-left l = Summing l.memory l.initial.sums l.sums l.i l.k l.left
-
-abbrev pub decreases-loop-left : goal.decreases-loop-left
-decreases-loop-left l = l.left
+abbrev pub invariant-loop-i : goal.invariant-loop-i
+invariant-loop-i l = Summing l.memory l.initial.sums l.sums l.i l.k l.n

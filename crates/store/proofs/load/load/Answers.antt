@@ -1,24 +1,23 @@
 -- `store::load::load` unpacks into memory of its own, and copies that where it is sound and there is room for it.
 use native.Mathlib.Omega.{arith}
-use mathlib.Core.Path.{sym, ◌∙◌}
-use Rattle.store.proofs.LoadAnswers.{refuses_broken, refuses_unsound, refuses_short, loads}
+use mathlib.Core.Path.{◌≡◌, refl, sym, ◌∙◌}
+use lib.ListN.{length}
+use lib.Seq.{length-take-le}
+use Rattle.memory.specs.Layout.{size}
+use Rattle.store.proofs.LoadAnswers.{refuses_short, loads}
 use Rattle.store.proofs.load.load.Goals as goal
-
-pub returns-then-not-unpack : goal.returns-then-not-unpack
-returns-then-not-unpack c =
-    refuses_broken _ _ c.unpack.ensures c.if-not-unpack.true
-
-pub returns-then-not-is_sound : goal.returns-then-not-is_sound
-returns-then-not-is_sound c =
-    refuses_unsound _ _ c.unpack.ensures c.if-not-unpack.false (omega arith)
-    (sym c.is_sound.ensures ∙ c.if-not-is_sound.true)
 
 pub returns-then-book-lt-SIZE : goal.returns-then-book-lt-SIZE
 returns-then-book-lt-SIZE c =
     refuses_short _ _ c.unpack.ensures c.if-not-unpack.false
     (λ j. omega (arith, c.type_inv.stored j)) (sym c.is_sound.ensures ∙ c.if-not-is_sound.false) c.if-book-lt-SIZE.true
 
+pub copy_from_slice-requires : goal.copy_from_slice-requires
+copy_from_slice-requires c = let long = c.unpack.ensures.as_long in omega (arith, length-take-le size c.args.book.now c.if-book-lt-SIZE.false)
+
 pub returns : goal.returns
 returns c =
+    let long : length c.unpack.new.memory ≡ size = omega (arith, c.unpack.ensures.as_long) in
     loads _ _ c.unpack.ensures c.if-not-unpack.false
-    (λ j. omega (arith, c.type_inv.stored j)) (sym c.is_sound.ensures ∙ c.if-not-is_sound.false) (omega arith) c.if-book-lt-SIZE.false c.put_text.ensures.output_after
+    (λ j. omega (arith, c.type_inv.stored j)) (sym c.is_sound.ensures ∙ c.if-not-is_sound.false) long c.if-book-lt-SIZE.false
+    (rw (c.copy_from_slice.ensures.after, long) refl)

@@ -1,20 +1,14 @@
--- `text::fields::cut` is `cut_count` and leaves `cut_table`: the cuts noted, then zeros.
-use mathlib.Core.Path.{◌∙◌}
-use native.Mathlib.Omega.{arith}
-use lib.ListN.{length}
+-- `text::fields::cut`: the cuts noted, then zeros.
+use Rattle.std.proofs.Common.{rules, ◌≡◌, ◌-◌, arith, length}
 use Rattle.text.specs.Fields.{cuts, cut_table, cut_count}
 use Rattle.text.proofs.Cuts.{padded}
 use Rattle.text.proofs.fields.cut.Goals as goal
 
-pub clear_from-requires : goal.clear_from-requires
-unfolding cut_count
-clear_from-requires c = omega (arith, c.note_cuts-count.ensures.value)
-
-pub returns : goal.returns
+pub returns-clause-table_after : goal.returns-clause-table_after
 unfolding cut_table cut_count
-returns c =
-    let noted = c.note_cuts-count.ensures in record {
-      value = noted.value;
-      table_after = c.clear_from.ensures
-          ∙ rw (noted.table_after, c.note_cuts-count.auto.table, noted.value) (padded (length c.args.table.now) (cuts c.args.separator c.args.s.now));
-    }
+returns-clause-table_after c =
+    let noted = c.note_cuts-count.ensures in
+    let parts = c.split_at_mut-behind.ensures in
+    let filled = c.fill.ensures.after (λ y k. search rules) in
+    let behind : length c.split_at_mut-behind.result.1.now ≡ length c.args.table.now - c.note_cuts-count.result = omega arith in
+    rw (parts.front, filled, noted.table_after, behind, noted.value) (padded (length c.args.table.now) (cuts c.args.separator c.args.s.now))

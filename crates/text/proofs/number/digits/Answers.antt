@@ -1,56 +1,29 @@
 -- `text::number::digits` is `number_after 0`: the digits passed make the number so far, which is below a power of ten.
-use mathlib.Core.Path.{◌≡◌, refl, sym, ◌∙◌}
-use native.Mathlib.Omega.{arith}
-use lib.ListN.{length, get_or}
-use Rattle.text.proofs.Digits.{digit_range, number_on, number_not, number_end, ten_more, tens_rise}
+use Rattle.std.proofs.Common.{arith, sym, ◌∙◌, get_or}
+use Rattle.text.proofs.Digits.{ascii_digit, digit_range, number_on, number_not, number_end, ten_more, tens_rise}
 use Rattle.text.proofs.number.digits.Goals as goal
 
-pub loop-i-init : goal.loop-i-init
-loop-i-init c = (omega arith, omega arith, refl)
+pub returns-then-not-is_ascii_digit-clause-value : goal.returns-then-not-is_ascii_digit-clause-value
+returns-then-not-is_ascii_digit-clause-value c =
+    let at = c.loop-b in
+    sym (number_not _ c.args.s.now at.b-index (omega arith) (ascii_digit _ c.is_ascii_digit.ensures.value c.if-not-is_ascii_digit.true)) ∙ at.invariant.1
 
 pub overflow_mul-n : goal.overflow_mul-n
-overflow_mul-n c =
-    let i = c.loop-i.i in
-    omega (arith, tens_rise {i = i} {j = 17} (omega arith))
-
-pub overflow_sub-n : goal.overflow_sub-n
-overflow_sub-n c = (digit_range _ (sym c.is_digit.ensures ∙ c.if-is_digit.true)).0
-
-pub overflow_cast-n : goal.overflow_cast-n
-overflow_cast-n c =
-    let s = c.args.s.now in
-    let i = c.loop-i.i in
-    omega (arith, digit_range (get_or s i 0) (sym c.is_digit.ensures ∙ c.if-is_digit.true))
+overflow_mul-n c = omega (arith, tens_rise {i = c.loop-b.b-index} {j = 17} (omega arith))
 
 pub overflow_add-n : goal.overflow_add-n
 overflow_add-n c =
+    omega (arith, tens_rise {i = c.loop-b.b-index} {j = 17} (omega arith), digit_range (get_or c.args.s.now c.loop-b.b-index 0) (ascii_digit _ c.is_ascii_digit.ensures.value c.if-not-is_ascii_digit.false))
+
+pub loop-b-preserved : goal.loop-b-preserved
+loop-b-preserved c =
     let s = c.args.s.now in
-    let i = c.loop-i.i in
-    omega (
-      arith,
-      tens_rise {i = i} {j = 17} (omega arith),
-      digit_range (get_or s i 0) (sym c.is_digit.ensures ∙ c.if-is_digit.true),
+    let at = c.loop-b in
+    let d = ascii_digit (get_or s at.b-index 0) c.is_ascii_digit.ensures.value c.if-not-is_ascii_digit.false in (
+      omega (arith, ten_more at.b-index, digit_range (get_or s at.b-index 0) d),
+      sym (number_on _ s at.b-index (omega arith) d) ∙ at.invariant.1,
     )
 
-pub loop-i-preserved : goal.loop-i-preserved
-loop-i-preserved c =
-    let s = c.args.s.now in
-    let i = c.loop-i.i in
-    let d = sym c.is_digit.ensures ∙ c.if-is_digit.true in (
-      omega arith,
-      omega (arith, ten_more i, digit_range (get_or s i 0) d),
-      sym (number_on _ s i (omega arith) d) ∙ c.loop-i.invariant.2,
-    )
-
-pub returns-else-is_digit : goal.returns-else-is_digit
-returns-else-is_digit c =
-    let s = c.args.s.now in
-    let i = c.loop-i.i in
-    record { value = sym (number_not _ s i (omega arith) (sym c.is_digit.ensures ∙ c.if-is_digit.false)) ∙ c.loop-i.invariant.2; below = tt }
-
-pub returns : goal.returns
-returns c =
-    let s = c.args.s.now in
-    let i = c.loop-i.i in
-    let e : i ≡ length s = omega arith in
-    record { value = sym (number_end _ s i (omega arith)) ∙ c.loop-i.invariant.2; below = rw (← e) c.loop-i.invariant.1 }
+pub returns-clause-value : goal.returns-clause-value
+returns-clause-value c =
+    sym (number_end _ c.args.s.now c.loop-b.b-index (omega arith)) ∙ c.loop-b.invariant.1

@@ -1,11 +1,11 @@
--- `text::utf8::is_well_formed` meets its contract: the places from 0 to i are passed.
-use Prim.Native.Nat.{◌-◌}
+-- `text::utf8::is_well_formed` meets its contract: what is left of the text is as well formed as all of it.
+use mathlib.Core.Path.{◌≡◌}
 use lib.ListN.{length}
-use Rattle.text.specs.Inner.Utf8Steps.{Past}
+use Rattle.text.specs.Utf8.{well_formed}
 use Rattle.text.proofs.utf8.is_well_formed.Given as goal
 
-abbrev pub invariant-loop-i : goal.invariant-loop-i
-invariant-loop-i l = Past l.s 0 l.i
+abbrev pub invariant-loop-left : goal.invariant-loop-left
+invariant-loop-left l = well_formed l.left ≡ well_formed l.s
 
-abbrev pub decreases-loop-i : goal.decreases-loop-i
-decreases-loop-i l = length l.s - l.i
+abbrev pub decreases-loop-left : goal.decreases-loop-left
+decreases-loop-left l = length l.left

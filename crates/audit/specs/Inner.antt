@@ -1,0 +1,2 @@
+-- What a buyer need not read.
+pub mod Entries

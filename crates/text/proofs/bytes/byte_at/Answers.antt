@@ -1,7 +1,0 @@
--- `text::bytes::byte_at` reads the byte, or 0 past the end.
-use mathlib.Core.Path.{sym}
-use lib.ListN.{get_or-eq_default}
-use Rattle.text.proofs.bytes.byte_at.Goals as goal
-
-pub returns-else-i-s : goal.returns-else-i-s
-returns-else-i-s c = sym (get_or-eq_default c.args.s.now 0 c.if-i-s.false)
