@@ -1,4 +1,4 @@
--- The number of each refusal of an order file, as document 01 has it beside its question.
+-- The number of each refusal of an order file, as document 01 has it beside its question, and 906 and 907 as document 02 has them.
 use Rattle.std.specs.Prelude.{ℕ}
 use Rattle.epe.specs.declared.refusal.Refusal.{Refusal}
 use Rattle.epe.specs.declared.refusal.Refusal.TheVariants.{Profile, Rates, FileEmpty, FileText, NameHyphens, NameEpe, NameZ, NameIdentifier, NameDate, NamePayment, NameKind, HeaderShape, HeaderMark, HeaderSender, HeaderFileCode, HeaderEdition, HeaderIdentifier, HeaderDate, HeaderPayment, HeaderKind, CreatedEmpty, Created, UnitEmpty, Unit, BenefitDate, Count, CountZero, Sum, SumZero, RecordShape, RecordAmount, RecordCount, RecordSum, RecordFee}

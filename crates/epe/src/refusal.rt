@@ -2,10 +2,10 @@
 ghost use Rattle.std.specs.Prelude.{◌≡◌};
 ghost use Rattle.epe.specs.Refusal.{number_of};
 
-// The question that is answered no, with its number, in document 01's order.
+// The question that is answered no, with its number. They stand in the order in which an intake asks them.
 #[derive(Clone, Copy, PartialEq, Eq, Debug)]
 pub enum Refusal {
-    // Profile within its ranges?
+    // Profile within the ranges above?
     Profile = 905,
 
     // Each of the profile's rates at most 10,000?
@@ -111,6 +111,7 @@ pub enum Refusal {
 impl From<Refusal> for u64 {
     ghost from_gives = { λ refusal number. number ≡ number_of refusal };
 
+    // Kept: 4d: what is cast is an enum, whose number nothing else gives.
     fn from(refusal: Refusal) -> u64 {
         refusal as u64
     }
