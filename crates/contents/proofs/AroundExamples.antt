@@ -12,7 +12,7 @@ use Rattle.text.specs.Number.{number, number_after}
 use Rattle.text.specs.Fields.{fields, onto}
 use Rattle.text.specs.Lines.{stray}
 use Rattle.text.specs.Utf8.{ascii, tail_octet, lead2, lead3, lead4, point2, point3, point4, surrogate, range2, range3, range4, row2, row3, row4}
-use Rattle.text.specs.Utf8.{width, well_formed_after, starts, code_points}
+use Rattle.text.specs.Utf8.{width, well_formed_after}
 use Rattle.epe.specs.Questions.{asked}
 use Rattle.contents.specs.Faults.{sized, postcode, extra, spaced, said_of, placed, housed, unspaced, fault_questions, fault_of}
 use Rattle.contents.specs.Around.{Around, Found, Refused, are_ended, are_begun, clean, around, fault_around}
@@ -20,7 +20,7 @@ use Rattle.contents.specs.declared.extra.ExtraSaid.{ExtraSaid}
 
 -- names the definitions that the examples compute
 judges : ExtraSaid → List ℕ → List ℕ → Around
-unfolding ascii tail_octet lead2 lead3 lead4 point2 point3 point4 surrogate range2 range3 range4 row2 row3 row4 width well_formed_after starts code_points fields onto stray number number_after digit asked sized postcode extra spaced said_of placed housed unspaced fault_questions fault_of are_ended are_begun clean around fault_around
+unfolding ascii tail_octet lead2 lead3 lead4 point2 point3 point4 surrogate range2 range3 range4 row2 row3 row4 width well_formed_after fields onto stray number number_after digit asked sized postcode extra spaced said_of placed housed unspaced fault_questions fault_of are_ended are_begun clean around fault_around
 judges = fault_around
 
 -- The fields of an order without a fault before and after its extra field, each ended and each begun by a bar.

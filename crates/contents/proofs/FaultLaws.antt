@@ -1,16 +1,19 @@
 -- Laws of an order's faults: a field's size, spaces from a field on, and the greatest number of a fault.
 -- Assumes nothing.
-use mathlib.Core.Path.{◌≡◌, refl, sym}
-use mathlib.Core.Bool.{Bool, true, false, cond, ◌&&◌}
+use mathlib.Core.Path.{◌≡◌, refl, sym, ◌∙◌}
+use mathlib.Core.Bool.{Bool, true, false, cond, not, ◌&&◌}
 use mathlib.Core.List.{List}
 use Prim.Native.Nat.{ℕ, zero, suc, ◌+◌, ◌-◌, ◌≤◌}
 use native.Mathlib.Omega.{arith}
 use borrow.Author.Tests.{leb-true, le-leb, lt-leb}
 use lib.Dec.{leb, lit≤}
 use lib.ListN.{length, take}
-use Rattle.text.specs.Utf8.{code_points}
+use Rattle.std.proofs.lemmas.List.Sums.{sum_by-take-le, count_by-le-length}
+use Rattle.text.specs.Bytes.{between}
+use Rattle.text.specs.Fields.{fields, cut_count}
+use Rattle.text.proofs.FieldsByTable.{range_by_cut}
+use Rattle.text.specs.Utf8.{tail_octet, code_points}
 use Rattle.text.proofs.Branches.{and_left, and_right}
-use Rattle.text.proofs.Utf8Counting.{first_counts, counts_at_most}
 use Rattle.epe.specs.File.{field}
 use Rattle.epe.specs.Questions.{asked}
 use Rattle.contents.specs.Faults.{sized, said_of, unspaced, fault_questions, first_fault, fault_of}
@@ -24,8 +27,8 @@ sized_by_bytes low high s h =
     let lowest = leb-true low (code_points (take 1 s)) (and_left (leb low (code_points (take 1 s))) (leb (length s) high) h) in
     let highest = leb-true (length s) high (and_right (leb low (code_points (take 1 s))) (leb (length s) high) h) in
     rw (
-      le-leb low (code_points s) (omega (arith, first_counts s)),
-      le-leb (code_points s) high (omega (arith, counts_at_most s)),
+      le-leb low (code_points s) (omega (arith, sum_by-take-le (λ b. cond (not (tail_octet b)) 1 0) s 1)),
+      le-leb (code_points s) high (omega (arith, count_by-le-length (λ b. not (tail_octet b)) s)),
     )
 
 -- the same fields in a text that begins some fields later
@@ -43,6 +46,10 @@ pub back_unspaced : (front back : List ℕ) (shift : ℕ) → shift ≤ 11
     → unspaced 7 (13 - shift) (λ k. field k back) ≡ unspaced 7 13 (field_of_two front back shift)
 back_unspaced front back shift h =
     sym (unspaced_later 7 13 shift (field_of_two front back shift) (λ k. field k back) (omega arith) (λ k l. rw (lt-leb k 11 (omega arith))))
+
+-- how many bars a text has, and how many fields
+pub bars_of : (line : List ℕ) (bars : ℕ) (r t : Bool) → bars ≡ cut_count 32 0x7C line → r ≡ between 7 20 bars → r ≡ t → between 8 21 (length (fields 0x7C line)) ≡ t
+bars_of line bars r t is said told = rw (← range_by_cut 32 0x7C line 7 20 (omega arith), ← is) (sym said ∙ told)
 
 -- a line's own extra field
 pub whole_line : (line : List ℕ) (said : ExtraSaid) → said ≡ said_of (field 12 line)

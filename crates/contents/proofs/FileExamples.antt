@@ -10,7 +10,7 @@ use Rattle.text.specs.Number.{number, number_after}
 use Rattle.text.specs.Fields.{fields, onto}
 use Rattle.text.specs.Lines.{lines, parted, without_last_end, stray}
 use Rattle.text.specs.Utf8.{ascii, tail_octet, lead2, lead3, lead4, point2, point3, point4, surrogate, range2, range3, range4, row2, row3, row4}
-use Rattle.text.specs.Utf8.{width, well_formed_after, starts, code_points}
+use Rattle.text.specs.Utf8.{width, well_formed_after}
 use Rattle.money.specs.Money.{fee, grosze_of}
 use Rattle.money.specs.Text.{text_of, together}
 use Rattle.fee.specs.Fee.{rate}
@@ -73,7 +73,7 @@ unfolding ascii tail_octet lead2 lead3 lead4 point2 point3 point4 surrogate rang
 opens = opening
 
 holds_orders : Profile → List ℕ → Verdict
-unfolding opens starts code_points grosze_of text_of together in_window day_number days_of_years days_of_months date_of date_of_number date_of_digits date_in_window clock_time time_of_number time_of_day as_fees profile_fits rates_fit profile_questions terms_for sized placed housed postcode extra spaced said_of unspaced fault_questions fault_of date_questions stated_questions shaped all_shaped all_priced all_charged total record_questions contents_questions contents order_of orders faulty_count judged_of
+unfolding opens grosze_of text_of together in_window day_number days_of_years days_of_months date_of date_of_number date_of_digits date_in_window clock_time time_of_number time_of_day as_fees profile_fits rates_fit profile_questions terms_for sized placed housed postcode extra spaced said_of unspaced fault_questions fault_of date_questions stated_questions shaped all_shaped all_priced all_charged total record_questions contents_questions contents order_of orders faulty_count judged_of
 holds_orders = contents
 
 abbrev order : ℕ → ℕ → Order

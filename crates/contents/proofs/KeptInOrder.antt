@@ -5,12 +5,10 @@ use mathlib.Core.Bool.{true, false, cond}
 use mathlib.Core.List.{List, [], ◌∷◌}
 use Prim.Native.Nat.{ℕ, ◌+◌, ◌/◌, ◌%◌, ◌<◌, ◌≤◌}
 use native.Mathlib.Omega.{arith}
-use borrow.Author.Tests.{le-leb, leb-true}
-use lib.Dec.{leb}
+use borrow.Author.Tests.{le-leb}
 use lib.ListN.{length, get_or, set, length-set}
 use lib.Seq.{get_or-set_same, get_or-set_other}
-use Rattle.text.proofs.Branches.{and_right}
-use Rattle.money.specs.Money.{amount, order_cap, is_order_amount, WithinOrder}
+use Rattle.money.specs.Money.{amount, order_cap, is_order_amount}
 use Rattle.contents.specs.Accepted.{OrderInRange, EachInRange}
 use Rattle.contents.specs.Kept.{kept_code, order_from, order_in, orders_in, kept_from, KeptInOrder}
 use Rattle.contents.specs.declared.record.Order.{Order}

@@ -9,7 +9,7 @@ use Rattle.text.specs.Bytes.{digit}
 use Rattle.text.specs.Quoted.{bytes}
 use Rattle.text.specs.Number.{number, number_after}
 use Rattle.text.specs.Fields.{fields, onto}
-use Rattle.text.specs.Utf8.{tail_octet, starts, code_points}
+use Rattle.text.specs.Utf8.{tail_octet}
 use Rattle.text.specs.Utf8Encoded.{encoded, encoded_all}
 use Rattle.epe.specs.Questions.{asked}
 use Rattle.contents.specs.Faults.{sized, postcode, extra, spaced, said_of, placed, housed, unspaced, fault_questions, fault_of}
@@ -39,7 +39,7 @@ quoted = refl
 each : fault_with 4 "" ∷ fault_with 5 "" ∷ fault_with 6 "" ∷ fault_with 7 "30001" ∷ fault_of (joined (changed 8 "" (changed 9 "" order)))
     ∷ fault_with 10 "" ∷ fault_with 12 "XX" ∷ fault_with 14 "" ∷ fault_with 15 "" ∷ fault_with 19 "x " ∷ []
     ≡ 1 ∷ 2 ∷ 3 ∷ 4 ∷ 5 ∷ 6 ∷ 7 ∷ 8 ∷ 9 ∷ 10 ∷ []
-unfolding fault_of asked fault_questions sized postcode extra spaced said_of placed housed unspaced code_points starts tail_octet fields onto number number_after digit
+unfolding fault_of asked fault_questions sized postcode extra spaced said_of placed housed unspaced tail_octet fields onto number number_after digit
 each = refl
 
 -- "Counting Ł as two" is a mistake to keep away from: k of U+0141 are 2 * k bytes and k long.
@@ -55,25 +55,25 @@ fault_long n k = fault_of (joined (set order (n - 1) (of_length k)))
 
 longest : fault_long 4 31 ∷ fault_long 5 22 ∷ fault_long 6 35 ∷ fault_long 8 35 ∷ fault_long 9 35 ∷ fault_long 10 11 ∷ fault_long 14 20 ∷ fault_long 15 35 ∷ []
     ≡ replicate 8 0
-unfolding encoded_all encoded fault_of asked fault_questions sized postcode extra spaced said_of placed housed unspaced code_points starts tail_octet fields onto number number_after digit
+unfolding encoded_all encoded fault_of asked fault_questions sized postcode extra spaced said_of placed housed unspaced tail_octet fields onto number number_after digit
 longest = refl
 
 too_long : fault_long 4 32 ∷ fault_long 5 23 ∷ fault_long 6 36 ∷ fault_long 8 36 ∷ fault_long 9 36 ∷ fault_long 10 12 ∷ fault_long 14 21 ∷ fault_long 15 36 ∷ []
     ≡ 1 ∷ 2 ∷ 3 ∷ 5 ∷ 5 ∷ 6 ∷ 8 ∷ 9 ∷ []
-unfolding encoded_all encoded fault_of asked fault_questions sized postcode extra spaced said_of placed housed unspaced code_points starts tail_octet fields onto number number_after digit
+unfolding encoded_all encoded fault_of asked fault_questions sized postcode extra spaced said_of placed housed unspaced tail_octet fields onto number number_after digit
 too_long = refl
 
 -- A field of one space is not empty, and the space is the last thing asked for.
 one_space : map (λ n. fault_with n " ") (4 ∷ 5 ∷ 7 ∷ 8 ∷ 10 ∷ 12 ∷ 19 ∷ []) ≡ 10 ∷ 10 ∷ 4 ∷ 10 ∷ 10 ∷ 7 ∷ 10 ∷ []
-unfolding fault_of asked fault_questions sized postcode extra spaced said_of placed housed unspaced code_points starts tail_octet fields onto number number_after digit
+unfolding fault_of asked fault_questions sized postcode extra spaced said_of placed housed unspaced tail_octet fields onto number number_after digit
 one_space = refl
 
 inner_spaces : map (fault_with 4) ("Nowak Kowalska" ∷ " Nowak" ∷ "Nowak " ∷ []) ≡ 0 ∷ 10 ∷ 10 ∷ []
-unfolding fault_of asked fault_questions sized postcode extra spaced said_of placed housed unspaced code_points starts tail_octet fields onto number number_after digit
+unfolding fault_of asked fault_questions sized postcode extra spaced said_of placed housed unspaced tail_octet fields onto number number_after digit
 inner_spaces = refl
 
 extras : map (fault_with 12) ("PR" ∷ "SP_00000" ∷ "PP_1" ∷ "sp_1" ∷ "SP_" ∷ "SP_123456" ∷ "PRO" ∷ []) ≡ 0 ∷ 0 ∷ 0 ∷ 7 ∷ 7 ∷ 7 ∷ 7 ∷ []
-unfolding fault_of asked fault_questions sized postcode extra spaced said_of placed housed unspaced code_points starts tail_octet fields onto number number_after digit
+unfolding fault_of asked fault_questions sized postcode extra spaced said_of placed housed unspaced tail_octet fields onto number number_after digit
 extras = refl
 
 -- An extra, valid or not, excuses an empty town, street and house number.
@@ -81,10 +81,10 @@ nowhere : List (List ℕ)
 nowhere = changed 8 "" (changed 9 "" (changed 10 "" order))
 
 excused : map (λ text. fault_of (joined (changed 12 text nowhere))) ("" ∷ "XX" ∷ "PR" ∷ []) ≡ 5 ∷ 7 ∷ 0 ∷ []
-unfolding nowhere fault_of asked fault_questions sized postcode extra spaced said_of placed housed unspaced code_points starts tail_octet fields onto number number_after digit
+unfolding nowhere fault_of asked fault_questions sized postcode extra spaced said_of placed housed unspaced tail_octet fields onto number number_after digit
 excused = refl
 
 -- "Nothing else in a record is judged."
 field_20 : fault_of (joined order ++ bytes "| x ") ≡ 0
-unfolding fault_of asked fault_questions sized postcode extra spaced said_of placed housed unspaced code_points starts tail_octet fields onto number number_after digit
+unfolding fault_of asked fault_questions sized postcode extra spaced said_of placed housed unspaced tail_octet fields onto number number_after digit
 field_20 = refl

@@ -1,7 +1,5 @@
 // The fault of a record whose extra field was judged before: the bytes before and after the field, and never the field itself.
-ghost use Rattle.std.specs.Prelude.{◌≡◌, length};
-ghost use Rattle.text.specs.Bytes.{between};
-ghost use Rattle.text.specs.Fields.{fields};
+ghost use Rattle.std.specs.Prelude.{◌≡◌};
 ghost use Rattle.contents.specs.Around.{around_of, are_ended, are_begun, clean, around, fault_around};
 
 use crate::extra::ExtraSaid;
@@ -49,18 +47,11 @@ fn are_ended(line: &Line<'_>) -> bool
 }
 
 // Is a text 7 to 20 fields, each begun by a bar?
-#[tactic(auto, using(text::proofs::Branches::branches), unfolding(crate::specs::Around::are_begun))]
+#[tactic(auto, using(text::proofs::Branches::branches, crate::proofs::FaultLaws::bars_of), unfolding(crate::specs::Around::are_begun))]
 fn are_begun(line: &Line<'_>) -> bool
     ensures { result ≡ are_begun 7 20 line.now.text.now }
 {
-    has_bars(line) && line.nth(1).is_empty()
-}
-
-// Has a text 7 to 20 bars?
-fn has_bars(line: &Line<'_>) -> bool
-    ensures { result ≡ between 8 21 (length (fields 0x7C line.now.text.now)) }
-{
-    (FEWEST_AFTER..=MOST_AFTER).contains(&line.cuts())
+    (FEWEST_AFTER..=MOST_AFTER).contains(&line.cuts()) && line.nth(1).is_empty()
 }
 
 // Is a text well-formed UTF-8 without CR or LF?

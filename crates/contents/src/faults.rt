@@ -46,6 +46,7 @@ pub enum Fault {
 impl From<Fault> for u64 {
     ghost from_gives = { λ fault number. number ≡ fault_number fault };
 
+    // Kept: 4d: what is cast is an enum, whose number nothing else gives.
     fn from(fault: Fault) -> u64 {
         fault as u64
     }

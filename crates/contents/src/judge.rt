@@ -20,6 +20,7 @@ pub struct Accepted {
 
 // The questions 901, 902, 129, 132 and 906 of records of so many fields, beside what the header states. The orders are kept in a table that keeps none
 // yet, as far as it goes; a refusal leaves it so.
+// Kept: 6d: one number to an order, since a table of orders as they are takes all the caller's stack (`order_in`).
 pub fn judge_records(
     fields: u64,
     stated: Stated,
@@ -64,6 +65,7 @@ fn judge_tally(tally: Option<Tally>, count: u64, sum: u64) -> Result<Accepted, R
 }
 
 // Clears the table that kept the orders of a refused file.
+// Kept: 6d: one number to an order, since a table of orders as they are takes all the caller's stack (`order_in`).
 fn keep_accepted(judged: Result<Accepted, Refusal>, kept: &mut [u64])
     requires { length kept.old ≡ 2_048 }
     ensures { kept.new ≡ kept_where (judged_as judged) kept.old }

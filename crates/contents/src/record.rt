@@ -17,6 +17,7 @@ use text::lines::has_stray;
 use text::number;
 
 // An order: its amount, and the number of its first fault, 0 for none.
+// Kept: 1c, 1d: an order is kept as one number and put into lent memory as bytes, where its fault is this number.
 #[derive(Clone, Copy, PartialEq, Eq, Debug)]
 pub struct Order {
     pub amount: Amount,
@@ -62,29 +63,13 @@ fn is_numbered(line: &Line<'_>, n: u64) -> bool
 }
 
 // The order of a line.
-#[tactic(auto, unfolding(crate::specs::Contents::order_of))]
+#[tactic(auto, using(money::proofs::Reading::amount_or_none, money::proofs::Reading::order_text_bound), unfolding(crate::specs::Contents::order_of))]
 fn order_of(line: &Line<'_>) -> Order
     ensures value { result ≡ order_of line.now.text.now }
     ensures within { WithinOrder result.amount.0 }
 {
     Order {
-        amount: Amount::order(amount(line)),
-        fault: fault(line),
+        amount: Amount::read_order(line.nth(3)).unwrap_or(Amount::order(0)),
+        fault: number_of(Record::of(line).first_fault()),
     }
-}
-
-// The amount that field 3 reads, in grosze; 0 where it reads none.
-#[tactic(auto, using(money::proofs::Reading::order_text_bound), unfolding(money::specs::Money::grosze_of))]
-fn amount(line: &Line<'_>) -> u64
-    ensures value { result ≡ amount_in line.now.text.now }
-    ensures within { WithinOrder result }
-{
-    Amount::read_order(line.nth(3)).map_or(0, |amount| amount.0)
-}
-
-// The number of the first fault of a line, 0 for none.
-fn fault(line: &Line<'_>) -> u64
-    ensures { result ≡ fault_of line.now.text.now }
-{
-    number_of(Record::of(line).first_fault())
 }

@@ -55,34 +55,26 @@ fn read_stated(line: &Line<'_>, profile: Profile) -> Stated
 }
 
 // The questions 102 to 125.
-#[tactic(auto, using(epe::proofs::Asking::asking), unfolding(crate::specs::Contents::date_questions))]
+#[tactic(auto, using(epe::proofs::Asking::asking, text::proofs::Branches::branches), unfolding(crate::specs::Contents::date_questions))]
 fn judge_dates(line: &Line<'_>, today: Date) -> Result<(), Refusal>
     ensures { verdict_of result ≡ first_no (date_questions today line.now.text.now) }
 {
-    if !is_filled(line, 7) {
+    if line.nth(7).is_empty() {
         return Err(Refusal::CreatedEmpty);
     }
     if !is_created(line, today) {
         return Err(Refusal::Created);
     }
-    if !is_filled(line, 6) {
+    if line.nth(6).is_empty() {
         return Err(Refusal::UnitEmpty);
     }
     if !is_unit(line) {
         return Err(Refusal::Unit);
     }
-    if !is_due(line, today) {
+    if !is_near(line.nth(8), today, 30, 30) {
         return Err(Refusal::BenefitDate);
     }
     Ok(())
-}
-
-// Is field n not empty?
-fn is_filled(line: &Line<'_>, n: usize) -> bool
-    requires { (1 ≤ n) × (n ≤ 32) }
-    ensures { result ≡ ltb 0 (length (field n line.now.text.now)) }
-{
-    !line.nth(n).is_empty()
 }
 
 // Is field 7 a date near today, and a time of day?
@@ -95,6 +87,7 @@ fn is_created(line: &Line<'_>, today: Date) -> bool
 }
 
 // Is a text a date from `before` days before to `after` days after today?
+// Kept: 5b: a window of its own is no plainer than two numbers, which each caller writes once.
 #[tactic(auto, unfolding(calendar::specs::Reading::date_in_window))]
 fn is_near(s: &[u8], today: Date, before: u64, after: u64) -> bool
     ensures { result ≡ date_in_window before after today (date_of_digits s.now) }
@@ -109,13 +102,6 @@ fn is_unit(line: &Line<'_>) -> bool
 {
     let s = line.nth(6);
     s.len() == 6 && are_letters_or_digits(s)
-}
-
-// Is field 8 a date near today?
-fn is_due(line: &Line<'_>, today: Date) -> bool
-    ensures { result ≡ date_in_window 30 30 today (date_of_digits (field 8 line.now.text.now)) }
-{
-    is_near(line.nth(8), today, 30, 30)
 }
 
 // The questions 126 to 131.
@@ -182,6 +168,7 @@ fn stated_sum(line: &Line<'_>) -> u64
 }
 
 // The kind that the header states; what is no digit is none.
+// Kept: 1d, 1f: a kind is a digit of a file, and what is no digit is one that the profile sets nothing for, as its definition has it.
 fn stated_kind(line: &Line<'_>) -> u64
     ensures { result ≡ stated_kind line.now.text.now }
 {

@@ -5,7 +5,7 @@ ghost use Rattle.epe.specs.Inner.Walk.{lines_from};
 ghost use Rattle.contents.specs.Kept.{Keepable, kept_code};
 ghost use Rattle.contents.specs.Inner.Tally.{added, SmallTally, Tallied};
 
-use crate::kept::FAULTS;
+use crate::kept::STEP;
 use crate::record::{Order, read_record};
 use fee::{Terms, charge_on};
 use text::bytes::slice;
@@ -13,6 +13,7 @@ use text::lines::line_end;
 
 // What the record lines so far come to: whether all are priced and charged a fee, how many they are, their sum, and how many orders are faulty.
 // Their sum is a plain number: 999,999 amounts can pass the cap of a sum, and only one that equals the header's is taken.
+// Kept: 1c: whether all are priced and charged is asked only where all lines are in shape, with other questions between, so that the walk carries it on.
 #[derive(Clone, Copy, PartialEq, Eq, Debug)]
 pub struct Tally {
     pub priced: bool,
@@ -23,6 +24,8 @@ pub struct Tally {
 }
 
 // The tally of the record lines from a place on, if all are shaped; their orders are kept as they are read, up to the first that is not.
+// Kept: 5a: terms are also what a profile or lent memory says before it is judged, any numbers at all, so that their type can't have the caps.
+// Kept: 6d: one number to an order, since a table of orders as they are takes all the caller's stack (`order_in`).
 pub fn tally_records(
     s: &[u8],
     from: usize,
@@ -41,6 +44,7 @@ pub fn tally_records(
         faulty: 0,
     };
     let mut at = from;
+    // Kept: 3b: a line starts where the one before it was found to end, and no iterator of the library parts a text at CR LF.
     while at <= s.len() {
         let end = line_end(s, at);
         let order = read_record(slice(s, at, end), fields, tally.count + 1)?;
@@ -52,16 +56,18 @@ pub fn tally_records(
 }
 
 // Keeps an order in entry j, where the table has that entry.
+// Kept: 6d: one number to an order, since a table of orders as they are takes all the caller's stack (`order_in`).
 fn keep(kept: &mut [u64], j: u64, order: Order)
     requires { Keepable order }
     ensures { kept.new ≡ set kept.old j (kept_code order) }
 {
     if j < kept.len() as u64 {
-        kept[j as usize] = order.amount.0 * FAULTS + order.fault;
+        kept[j as usize] = order.amount.0 * STEP + order.fault;
     }
 }
 
 // The tally with one order more, on the terms of its fee.
+// Kept: 5a: terms are also what a profile or lent memory says before it is judged, any numbers at all, so that their type can't have the caps.
 #[tactic(auto, using(crate::proofs::TallyWalk::charge_within), unfolding(crate::specs::Inner::Tally::added))]
 fn with_order(terms: Terms, tally: Tally, order: Order) -> Tally
     requires { SmallTally tally order × TermsFit terms }

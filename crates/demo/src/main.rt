@@ -17,6 +17,7 @@ use std::io;
 use std::io::Read;
 
 // The line of a call, for each form that an answer has.
+// Kept: 4f: what a line says of an answer is this program's own; a `Display` of it would need a type around each answer, since those are of acts.
 fn say_completion(rt: &impl Print, call: &str, completion: Completion) -> io::Result<()> {
     match completion {
         Completion::Done => println!(rt; "{call}: done"),
@@ -24,6 +25,7 @@ fn say_completion(rt: &impl Print, call: &str, completion: Completion) -> io::Re
     }
 }
 
+// Kept: 4f: what a line says of an answer is this program's own; a `Display` of it would need a type around each answer, since those are of acts.
 fn say_acceptance(rt: &impl Print, call: &str, acceptance: Acceptance) -> io::Result<()> {
     match acceptance {
         Acceptance::Accepted(orders, faulty) => {
@@ -33,6 +35,7 @@ fn say_acceptance(rt: &impl Print, call: &str, acceptance: Acceptance) -> io::Re
     }
 }
 
+// Kept: 4f: what a line says of an answer is this program's own; a `Display` of it would need a type around each answer, since those are of acts.
 fn say_pairing(rt: &impl Print, call: &str, pairing: Pairing) -> io::Result<()> {
     match pairing {
         Pairing::Paired => println!(rt; "{call}: paired"),
@@ -43,6 +46,7 @@ fn say_pairing(rt: &impl Print, call: &str, pairing: Pairing) -> io::Result<()> 
     }
 }
 
+// Kept: 4f: what a line says of an answer is this program's own; a `Display` of it would need a type around each answer, since those are of acts.
 fn say_posting(rt: &impl Print, call: &str, posting: Posting) -> io::Result<()> {
     match posting {
         Posting::Earned(fee) => println!(rt; "{call}: earned {} grosze", fee.0),
@@ -50,6 +54,7 @@ fn say_posting(rt: &impl Print, call: &str, posting: Posting) -> io::Result<()> 
     }
 }
 
+// Kept: 4f: what a line says of an answer is this program's own; a `Display` of it would need a type around each answer, since those are of acts.
 fn say_payment(rt: &impl Print, call: &str, payment: Payment) -> io::Result<()> {
     match payment {
         Payment::Paid(amount) => println!(rt; "{call}: paid {} grosze", amount.0),
@@ -57,6 +62,7 @@ fn say_payment(rt: &impl Print, call: &str, payment: Payment) -> io::Result<()> 
     }
 }
 
+// Kept: 4f: what a line says of an answer is this program's own; a `Display` of it would need a type around each answer, since those are of acts.
 fn say_returning(rt: &impl Print, call: &str, returning: Returning) -> io::Result<()> {
     match returning {
         Returning::Amounts(amount, orders) => {
@@ -76,6 +82,7 @@ fn say_returning(rt: &impl Print, call: &str, returning: Returning) -> io::Resul
 }
 
 // The line of a call that is refused with a number.
+// Kept: 1d, 4f: what is printed of a refusal is its number in document 01.
 fn say_refused(rt: &impl Print, call: &str, number: u64) -> io::Result<()> {
     println!(rt; "{call}: refused with {number}")
 }
@@ -149,6 +156,7 @@ fn run_orders(rt: &impl Print, memory: &mut [u8], ident: Ident) -> io::Result<()
 }
 
 // Runs ZS1 in the memory, from an empty book and the intake of its file on.
+// Kept: 5b: a name and a file are two texts of an intake, as the C interface lends them.
 fn run(rt: &impl Print, memory: &mut [u8], name: &[u8], file: &[u8]) -> io::Result<()> {
     let fee = Fee::order(350);
     let rate = Rate(0);
@@ -172,6 +180,7 @@ fn read_full(file: &mut File, buffer: &mut [u8]) -> io::Result<usize>
     ensures { IfOk result (λ n. n ≤ length buffer.new) }
 {
     let mut length = 0;
+    // Kept: 3b: the library's reading to an end takes the heap, and how much a file gives at a time is known only when it has.
     while length < buffer.len() {
         let n = file.read(&mut buffer[length..])?;
         if n == 0 {

@@ -22,7 +22,7 @@ use Rattle.epe.specs.Questions.{Passed, Refused, ◌else_no◌, asked, first_no,
 use Rattle.epe.specs.Name.{name_part, name_questions, name_of, has_long_date, short_title, title_name, title_ending, title_questions, title_of, title_read, long_title, LongMeansShort}
 use Rattle.epe.specs.Inner.Ending.{ending_money}
 use Rattle.epe.specs.declared.name.Name.{Name}
-use Rattle.epe.specs.Inner.Dated.{Dated}
+use Rattle.epe.specs.Inner.Dated.{Dated, dated_questions, dated_name}
 
 -- a byte before the first of some parts
 onto_first : (b : ℕ) (parts : List (List ℕ)) → get_or (onto b parts) 0 [] ≡ b ∷ get_or parts 0 []
@@ -203,6 +203,18 @@ long_at title long =
           enough = date.enough;
         }
 
+-- what is asked of a name with another second part, and its parts, are those of the name that is meant
+pub same_verdict : {name date meant : List ℕ} → Dated name date meant → first_no (dated_questions name date) ≡ first_no (name_questions meant)
+unfolding dated_questions name_questions asked
+same_verdict {name} is =
+    either_way (same (take 3 name) (bytes "EPE"))
+    (λ starts. rw (is.parts, is.first, is.second, is.third, is.fourth, is.start, is.behind starts) refl)
+    (λ not. rw (is.parts, is.start, not) refl)
+
+pub same_name : {name date meant : List ℕ} → Dated name date meant → dated_name name date ≡ name_of meant
+unfolding dated_name name_of
+same_name is = rw (is.first, is.second, is.third, is.fourth) refl
+
 -- what stands before a title's ending, with the date as it is to be read
 abbrev BeforeEnding : List ℕ → Type 0
 BeforeEnding title =
@@ -210,7 +222,7 @@ BeforeEnding title =
     (title_name title)
 
 -- a name is dated by its own second part
-pub dated_itself : {name date : List ℕ} → date ≡ name_part 2 name → Dated name date name
+dated_itself : {name date : List ℕ} → date ≡ name_part 2 name → Dated name date name
 dated_itself is = record { parts = refl; first = refl; second = sym is; third = refl; fourth = refl; start = refl; behind = λ start. refl }
 
 as_it_is : (title : List ℕ) → has_long_date title ≡ false → short_title title ≡ title
@@ -326,13 +338,15 @@ module _ (title : List ℕ) where
   no_money none =
       rw (asked_alone (is_passed (first_no (name_questions (title_name title))) && is_ending (title_ending title)) 11, ends_in_none (title_ending title) none, second_no (is_passed (first_no (name_questions (title_name title)))) false refl)
 
-  pub no_name : (n : ℕ) → Refused n ≡ first_no (name_questions (title_name title)) → None ≡ title_read title
-  unfolding title_read title_questions is_passed
-  no_name n refused = rw (asked_alone (is_passed (first_no (name_questions (title_name title))) && is_ending (title_ending title)) 11, sym refused)
+  module _ {name date : List ℕ} (dated : Dated name date (title_name title)) where
+    pub no_name : (n : ℕ) → Refused n ≡ first_no (dated_questions name date) → None ≡ title_read title
+    unfolding title_read title_questions is_passed
+    no_name n refused =
+        rw (asked_alone (is_passed (first_no (name_questions (title_name title))) && is_ending (title_ending title)) 11, sym (refused ∙ same_verdict dated))
 
-  pub title_is : (money : Money) (name : Name) → Some money ≡ ending_money (title_ending title) → Passed ≡ first_no (name_questions (title_name title))
-      → name ≡ name_of (title_name title) → Some (record { name = name; money = money }) ≡ title_read title
-  unfolding title_read title_questions title_of is_passed
-  title_is money name named passed is =
-      let ends = ends_in_one (title_ending title) money named in
-      rw (asked_alone (is_passed (first_no (name_questions (title_name title))) && is_ending (title_ending title)) 11, sym passed, ends.0, is, ends.1)
+    pub title_is : (money : Money) (parts : Name) → Some money ≡ ending_money (title_ending title) → Passed ≡ first_no (dated_questions name date)
+        → parts ≡ dated_name name date → Some (record { name = parts; money = money }) ≡ title_read title
+    unfolding title_read title_questions title_of is_passed
+    title_is money parts named passed is =
+        let ends = ends_in_one (title_ending title) money named in
+        rw (asked_alone (is_passed (first_no (name_questions (title_name title))) && is_ending (title_ending title)) 11, sym (passed ∙ same_verdict dated), ends.0, is, same_name dated, ends.1)

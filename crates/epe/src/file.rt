@@ -14,6 +14,7 @@ use text::bytes::{first, rest};
 use text::lines::{line_end, without_last_end};
 
 // The questions 001 to 023 of a file: its name's parts, which are in form, or the first that is answered no.
+// Kept: 5b: a name and a file are two texts of an intake, as the C interface lends them.
 #[tactic(auto, using(crate::proofs::Asking::join_no, crate::proofs::Asking::join_yes), unfolding(crate::specs::Opening::opening, crate::specs::Opening::opening_questions))]
 pub fn open(name: &[u8], file: &[u8]) -> Result<Name, Refusal>
     ensures verdict { verdict_of result ≡ opening name.now file.now }

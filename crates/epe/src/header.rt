@@ -12,7 +12,6 @@ ghost use Rattle.epe.specs.Opening.{fixed_questions, repeated_questions};
 use crate::line::Line;
 use crate::name::{Parts, identifier_in};
 use crate::refusal::Refusal;
-use text::bytes::{first, rest};
 use text::lines::has_stray;
 
 // The header's questions 004 to 023.
@@ -33,16 +32,16 @@ fn judge_fixed(line: &Line<'_>) -> Result<(), Refusal>
     if !is_header(line) {
         return Err(Refusal::HeaderShape);
     }
-    if !field_is(line, 1, b"1") {
+    if line.nth(1) != b"1".as_slice() {
         return Err(Refusal::HeaderMark);
     }
-    if !field_is(line, 2, b"ZUS") {
+    if line.nth(2) != b"ZUS".as_slice() {
         return Err(Refusal::HeaderSender);
     }
-    if !field_is(line, 3, b"EPE") {
+    if line.nth(3) != b"EPE".as_slice() {
         return Err(Refusal::HeaderFileCode);
     }
-    if !field_is(line, 4, b"1.0") {
+    if line.nth(4) != b"1.0".as_slice() {
         return Err(Refusal::HeaderEdition);
     }
     Ok(())
@@ -56,38 +55,31 @@ fn is_header(line: &Line<'_>) -> bool
     line.has(12) && !has_stray(line.text())
 }
 
-// Does field n have just these bytes?
-fn field_is(line: &Line<'_>, n: usize, wanted: &[u8]) -> bool
-    requires { (1 ≤ n) × (n ≤ 32) }
-    ensures { result ≡ same (field n line.now.text.now) wanted.now }
-{
-    line.nth(n) == wanted
-}
-
 // The questions 014 to 023.
 #[tactic(auto, using(crate::proofs::Asking::asking), unfolding(crate::specs::Opening::repeated_questions))]
 fn judge_repeated(name: &Parts<'_>, line: &Line<'_>) -> Result<(), Refusal>
     ensures { verdict_of result ≡ first_no (repeated_questions name.now.text.now line.now.text.now) }
 {
-    if !field_is(line, 5, identifier_in(name)) {
+    if line.nth(5) != identifier_in(name) {
         return Err(Refusal::HeaderIdentifier);
     }
     if !is_dated(line.nth(8), name.nth(2)) {
         return Err(Refusal::HeaderDate);
     }
-    if !field_is(line, 9, name.nth(3)) {
+    if line.nth(9) != name.nth(3) {
         return Err(Refusal::HeaderPayment);
     }
-    if !field_is(line, 10, name.nth(4)) {
+    if line.nth(10) != name.nth(4) {
         return Err(Refusal::HeaderKind);
     }
     Ok(())
 }
 
 // Is a text `20` and then the name's date?
+// Kept: 4a: it is the library's `strip_prefix` and `==` already, under the name of its question.
 #[tactic(auto, using(text::proofs::Branches::branches, text::proofs::Same::same_joined))]
 fn is_dated(s: &[u8], date: &[u8]) -> bool
     ensures { result ≡ same s.now (bytes "20" ++ date.now) }
 {
-    first(s, 2) == b"20".as_slice() && rest(s, 2) == date
+    s.strip_prefix(b"20") == Some(date)
 }

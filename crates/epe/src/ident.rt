@@ -1,6 +1,5 @@
 // Shipment identifiers: which texts are one, and how one is held and compared.
-ghost use Rattle.std.specs.Prelude.{◌≡◌, ◌&&◌, ◌++◌, take, replicate};
-ghost use Rattle.text.specs.Bytes.{letter};
+ghost use Rattle.std.specs.Prelude.{◌≡◌, ◌++◌, take, replicate};
 ghost use Rattle.epe.specs.Ident.{identifier, ident_of};
 
 use text::bytes::{are_letters_or_digits, byte_at, first, rest};
@@ -15,15 +14,18 @@ pub struct Ident {
 }
 
 // Is the text an identifier?
-#[tactic(auto, using(text::proofs::Branches::branches), unfolding(crate::specs::Ident::identifier))]
+#[tactic(auto, using(text::proofs::Branches::branches), unfolding(crate::specs::Ident::identifier, text::specs::Bytes::letter))]
 pub fn is_identifier(s: &[u8]) -> bool
     ensures { result ≡ identifier s.now }
 {
     (3..=17).contains(&s.len())
-        && (are_letters(byte_at(s, 0), byte_at(s, 1)) && are_letters_or_digits(rest(s, 2)))
+        && byte_at(s, 0).is_ascii_alphabetic()
+        && byte_at(s, 1).is_ascii_alphabetic()
+        && are_letters_or_digits(rest(s, 2))
 }
 
 // The text as an identifier is held; no bytes where it is none.
+// Kept: 1f: the C interface lends any bytes for an identifier, and those that are none are held as no bytes, which no shipment has.
 #[tactic(auto, using(text::proofs::Branches::branches), unfolding(crate::specs::Ident::ident_of))]
 pub fn ident_of(s: &[u8]) -> Ident
     ensures { result ≡ ident_of s.now }
@@ -40,15 +42,8 @@ pub fn ident_of(s: &[u8]) -> Ident
     }
 }
 
-// Are both bytes letters?
-#[tactic(auto, unfolding(text::specs::Bytes::letter))]
-fn are_letters(a: u8, b: u8) -> bool
-    ensures { result ≡ (letter a && letter b) }
-{
-    a.is_ascii_alphabetic() && b.is_ascii_alphabetic()
-}
-
 // The first 17 bytes of a text, with zeros where it has fewer.
+// Kept: 4b: it is the library's copy already, into an array that C has.
 fn padded(s: &[u8]) -> [u8; 17]
     ensures { result ≡ take 17 (s.now ++ replicate 17 0) }
 {

@@ -10,7 +10,7 @@ ghost use Rattle.epe.specs.Questions.{first_no, verdict_of};
 ghost use Rattle.epe.specs.Ident.{identifier};
 ghost use Rattle.epe.specs.Name.{name_part, name_ident, name_questions, name_of, title_name, title_read};
 ghost use Rattle.epe.specs.Inner.Ending.{ending_money};
-ghost use Rattle.epe.specs.Inner.Dated.{Dated};
+ghost use Rattle.epe.specs.Inner.Dated.{Dated, dated_questions, dated_name};
 
 use crate::ident::{Ident, ident_of, is_identifier};
 use crate::refusal::Refusal;
@@ -24,6 +24,7 @@ use text::number::read;
 pub type Parts<'a> = Fields<'a, b'-', 4>;
 
 // The parts of a name.
+// Kept: 1d: a name in lent memory that is not judged yet has any byte for its payment and its kind, and is told of as it is.
 #[derive(Clone, Copy, PartialEq, Eq, Debug)]
 pub struct Name {
     pub ident: Ident,
@@ -40,7 +41,7 @@ pub struct Title {
 }
 
 // The first question of a name that is answered no.
-#[tactic(auto, using(crate::proofs::TitleLaws::dated_itself))]
+#[tactic(auto, unfolding(crate::specs::Name::name_questions, crate::specs::Inner::Dated::dated_questions))]
 pub fn judge_name(name: &Parts<'_>) -> Result<(), Refusal>
     ensures { verdict_of result ≡ first_no (name_questions name.now.text.now) }
 {
@@ -48,7 +49,7 @@ pub fn judge_name(name: &Parts<'_>) -> Result<(), Refusal>
 }
 
 // The parts of a name, as far as it has them.
-#[tactic(auto, using(crate::proofs::TitleLaws::dated_itself))]
+#[tactic(auto, unfolding(crate::specs::Name::name_of, crate::specs::Inner::Dated::dated_name))]
 pub fn name_of(name: &Parts<'_>) -> Name
     ensures { result ≡ name_of name.now.text.now }
 {
@@ -72,8 +73,9 @@ pub fn read_title(title: &[u8]) -> Option<Title>
 }
 
 // The first question that is answered no of a name with this second part.
+#[tactic(auto, using(crate::proofs::Asking::asking), unfolding(crate::specs::Inner::Dated::dated_questions))]
 fn judge_parts(name: &Parts<'_>, date: &[u8]) -> Result<(), Refusal>
-    ensures { (meant : List ℕ) → Dated name.now.text.now date.now meant → verdict_of result ≡ first_no (name_questions meant) }
+    ensures { verdict_of result ≡ first_no (dated_questions name.now.text.now date.now) }
 {
     if !name.has(4) {
         return Err(Refusal::NameHyphens);
@@ -100,15 +102,15 @@ fn judge_parts(name: &Parts<'_>, date: &[u8]) -> Result<(), Refusal>
 }
 
 // The parts of a name with this second part.
-#[tactic(auto, unfolding(crate::specs::Name::name_of))]
+#[tactic(auto, unfolding(crate::specs::Inner::Dated::dated_name))]
 fn read_parts(name: &Parts<'_>, date: &[u8]) -> Name
-    ensures { (meant : List ℕ) → Dated name.now.text.now date.now meant → result ≡ name_of meant }
+    ensures { result ≡ dated_name name.now.text.now date.now }
 {
     Name {
         ident: ident_of(identifier_in(name)),
         date: date_of(date),
         payment: byte_at(name.nth(3), 0),
-        kind: kind_in(name),
+        kind: read(name.nth(4), 1, 1).unwrap_or(0),
     }
 }
 
@@ -164,19 +166,12 @@ fn has_payment(name: &Parts<'_>) -> bool
     part == b"A".as_slice() || part == b"B".as_slice()
 }
 
-// The one digit of its fourth part.
-fn kind_in(name: &Parts<'_>) -> u64
-    ensures { result ≡ unwrap_or (number 1 1 (name_part 4 name.now.text.now)) 0 }
-{
-    read(name.nth(4), 1, 1).unwrap_or(0)
-}
-
 // Is its fourth part one digit 0 to 4?
 #[tactic(auto, using(text::proofs::Branches::branches))]
 fn has_kind(name: &Parts<'_>) -> bool
     ensures { result ≡ (is_some (number 1 1 (name_part 4 name.now.text.now)) && leb (unwrap_or (number 1 1 (name_part 4 name.now.text.now)) 0) 4) }
 {
-    read(name.nth(4), 1, 1).is_some() && kind_in(name) <= 4
+    read(name.nth(4), 1, 1).is_some_and(|kind| kind <= 4)
 }
 
 // The second part of what stands before a title's ending, without its 20 where that makes it a long one.

@@ -10,6 +10,7 @@ use fee::{Rate, Terms};
 use money::{Fee, Grosze};
 
 // How many kinds of benefit there are: 0 to 4.
+// Kept: 1d: a kind is a digit of a file, and this is how many there are.
 pub const KINDS: u64 = 5;
 
 // Today, the flat parts of the fees by benefit kind 0 to 4, the number of fields in a record line, and the rates by kind.
@@ -53,25 +54,20 @@ fn rates_fit(rates: [Rate; 5]) -> bool
 }
 
 // What the profile sets for a kind; nothing for what is no kind.
+// Kept: 1d, 1f: a kind is a digit of a file, and what is none has no flat part and no rate, as its definition has it.
 #[tactic(auto, using(text::proofs::Branches::branches), unfolding(crate::specs::Profile::terms_for))]
 pub fn terms_of(profile: Profile, kind: u64) -> Terms
     ensures { result ≡ terms_for profile kind }
 {
-    if KINDS <= kind {
-        return Terms {
-            flat: Fee::order(0),
-            rate: Rate(0),
-        };
-    }
-    let flat = profile.flat;
-    let rates = profile.rates;
+    let kind = kind as usize;
     Terms {
-        flat: flat[kind as usize],
-        rate: rates[kind as usize],
+        flat: profile.flat.get(kind).copied().unwrap_or(Fee::order(0)),
+        rate: profile.rates.get(kind).copied().unwrap_or(Rate(0)),
     }
 }
 
 // Are five numbers fees?
+// Kept: 2c, 6d: a journal, which the C interface lends, has five fees as plain numbers, and they are asked as fees are.
 pub fn are_fees(numbers: [u64; 5]) -> bool
     ensures { result ≡ fees_fit (as_fees numbers) }
 {
@@ -79,6 +75,7 @@ pub fn are_fees(numbers: [u64; 5]) -> bool
 }
 
 // Five numbers as fees.
+// Kept: 6d: a journal, which the C interface lends, has five fees as plain numbers.
 #[tactic(auto, unfolding(crate::specs::Profile::as_fees))]
 pub fn fees_of(numbers: [u64; 5]) -> [Fee; 5]
     ensures { result ≡ as_fees numbers }
@@ -87,6 +84,7 @@ pub fn fees_of(numbers: [u64; 5]) -> [Fee; 5]
 }
 
 // Is each of five fees within its cap?
+// Kept: 2a, 2c: fees and rates are each asked their own test by the library's `all`, which one function of both would be lent as a closure.
 fn fees_fit(fees: [Fee; 5]) -> bool
     ensures { result ≡ fees_fit fees }
 {

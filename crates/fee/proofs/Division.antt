@@ -2,7 +2,8 @@
 -- Assumes nothing.
 use mathlib.Core.Path.{◌≡◌, sym, ◌∙◌, ap}
 use mathlib.Core.Bool.{true, ◌&&◌}
-use Prim.Native.Nat.{ℕ, ◌+◌, ◌*◌, ◌-◌, ◌≤◌, ◌<◌}
+use Prim.Native.Nat.{ℕ, ◌+◌, ◌*◌, ◌-◌, ◌^◌, ◌≤◌, ◌<◌}
+use native.Mathlib.Nat.{mul-le-mul}
 use native.Mathlib.Omega.{arith}
 use borrow.Author.Tests.{leb-true, ltb-true, eqb-true, le-leb, lt-ltb, eq-eqb}
 use lib.Bits.{bit_xor, xor_add_and, xor_self, and_le_l, and_le_r}
@@ -48,6 +49,12 @@ divides_alone terms amount = record {
       let facts = facts_of terms amount fee remainder h in
       (omega (arith, facts.flat, facts.below, facts.equal), omega (arith, facts.flat, facts.below, facts.equal));
 }
+
+-- the product is small
+pub small_product : (amount rate : ℕ) → amount < 2 ^ 32 → rate ≤ rate_cap → amount * rate ≤ 4_294_967_296 * 10_000
+small_product amount rate few low =
+    let most : amount ≤ 4_294_967_296 = omega arith in
+    mul-le-mul most low
 
 -- as code asks: two sums, and no difference
 divides_told : (terms : Terms) (amount fee remainder : ℕ)

@@ -15,6 +15,7 @@ pub enum Refusal {
 impl From<Refusal> for u64 {
     ghost from_gives = { λ refusal number. number ≡ number_of refusal };
 
+    // Kept: 4d: what is cast is an enum, whose number nothing else gives.
     fn from(refusal: Refusal) -> u64 {
         refusal as u64
     }

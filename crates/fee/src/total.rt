@@ -27,40 +27,27 @@ pub fn amount_for(flat: u64, rate: u64, total: u64) -> Result<Option<Amount>, Re
     Ok(find(Terms { flat, rate }, total))
 }
 
-// The amount that makes a total on some terms, if there is one.
+// The amount that makes a total on some terms, if there is one. Only one could: the total without the flat part, times 10,000, over 10,000 and the rate,
+// rounded up.
+// Kept: 5a: terms are also what a profile or lent memory says before it is judged, any numbers at all, so that their type can't have the caps.
 #[tactic(auto, using(text::proofs::Branches::branches, crate::proofs::Totals::out_of_reach, crate::proofs::Totals::makes_within), unfolding(crate::specs::Total::found_for))]
 fn find(terms: Terms, total: u64) -> Option<Amount>
     requires { TermsFit terms }
     ensures { result ≡ found_for terms total }
 {
-    if !is_in_reach(terms.flat, total) {
+    if !(terms.flat.0..OUT_OF_REACH).contains(&total) {
         return None;
     }
-    let grosze = candidate_for(terms, total);
+    let whole = Rate::CAP + terms.rate.0;
+    let grosze = (Rate::CAP * (total - terms.flat.0) + (whole - 1)) / whole;
     if !does_make(terms, total, grosze) {
         return None;
     }
     Some(Amount::order(grosze))
 }
 
-// Is a total no less than the flat part, and not out of reach?
-#[tactic(auto, using(text::proofs::Branches::branches))]
-fn is_in_reach(flat: Fee, total: u64) -> bool
-    ensures { result ≡ (leb flat.0 total && ltb total (2 ^ 32)) }
-{
-    flat.0 <= total && total < OUT_OF_REACH
-}
-
-// The one amount that could make a total: without the flat part, times 10,000, over 10,000 and the rate, rounded up.
-fn candidate_for(terms: Terms, total: u64) -> u64
-    requires { TermsFit terms × (terms.flat.0 ≤ total) × (total < 2 ^ 32) }
-    ensures { result ≡ candidate terms total }
-{
-    let whole = Rate::CAP + terms.rate.0;
-    (Rate::CAP * (total - terms.flat.0) + (whole - 1)) / whole
-}
-
 // Does an amount make a total, with a fee that an order can hold?
+// Kept: 5a: terms are also what a profile or lent memory says before it is judged, any numbers at all, so that their type can't have the caps.
 #[tactic(auto, using(text::proofs::Branches::branches), unfolding(crate::specs::Total::makes, crate::specs::Fee::charged_by))]
 fn does_make(terms: Terms, total: u64, grosze: u64) -> bool
     requires { TermsFit terms }

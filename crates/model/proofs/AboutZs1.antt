@@ -8,7 +8,7 @@ use Rattle.text.specs.Number.{number, number_after}
 use Rattle.text.specs.Fields.{fields, onto}
 use Rattle.text.specs.Lines.{lines, parted, without_last_end, stray}
 use Rattle.text.specs.Utf8.{ascii, tail_octet, lead2, lead3, lead4, point2, point3, point4, surrogate, range2, range3, range4, row2, row3, row4}
-use Rattle.text.specs.Utf8.{width, well_formed_after, starts, code_points}
+use Rattle.text.specs.Utf8.{width, well_formed_after}
 use Rattle.money.specs.Money.{grosze_of}
 use Rattle.money.specs.Text.{text_of, together}
 use Rattle.calendar.specs.Calendar.{real, leap, month_length, in_window, day_number, days_of_years, days_of_months}
@@ -33,7 +33,7 @@ use Rattle.model.specs.LongTitles.{LongTitles}
 
 -- names the definitions that the table computes
 unfoldable pub stepped : Book → Call → Step
-unfolding digit letter letter_or_digit number number_after fields onto lines parted without_last_end stray ascii tail_octet lead2 lead3 lead4 point2 point3 point4 surrogate range2 range3 range4 row2 row3 row4 width well_formed_after starts code_points grosze_of text_of together real leap month_length in_window day_number days_of_years days_of_months date_of date_of_number date_of_digits date_in_window clock_time time_of_number time_of_day asked is_passed identifier ident_of same_ident profile_fits rates_fit profile_questions terms_for name_questions name_of has_long_date short_title title_questions title_of marked file_questions fixed_questions repeated_questions opening_questions opening sized placed housed postcode extra spaced said_of unspaced fault_questions fault_of date_questions stated_questions shaped all_shaped all_priced all_charged total record_questions contents_questions contents order_of orders faulty_count need free held any_faulty transferred gone_ahead paired closed on_order waiting waiting_orders returned_by surplus_returned acted same_name entered intake_questions taken_in transferred_in step
+unfolding digit letter letter_or_digit number number_after fields onto lines parted without_last_end stray ascii tail_octet lead2 lead3 lead4 point2 point3 point4 surrogate range2 range3 range4 row2 row3 row4 width well_formed_after grosze_of text_of together real leap month_length in_window day_number days_of_years days_of_months date_of date_of_number date_of_digits date_in_window clock_time time_of_number time_of_day asked is_passed identifier ident_of same_ident profile_fits rates_fit profile_questions terms_for name_questions name_of has_long_date short_title title_questions title_of marked file_questions fixed_questions repeated_questions opening_questions opening sized placed housed postcode extra spaced said_of unspaced fault_questions fault_of date_questions stated_questions shaped all_shaped all_priced all_charged total record_questions contents_questions contents order_of orders faulty_count need free held any_faulty transferred gone_ahead paired closed on_order waiting waiting_orders returned_by surplus_returned acted same_name entered intake_questions taken_in transferred_in step
 stepped = step
 
 computed : Table × Neighbours × LongTitles

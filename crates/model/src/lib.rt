@@ -21,6 +21,7 @@ pub enum Route {
 }
 
 // Where an order stands: Faulty with its fault and whether K and O wait, Undelivered with whether K waits, Withdrawn with whether K and O wait.
+// Kept: 1d: "a state enum whose Faulty case carries the fault": a row of lent memory that is not judged yet has any byte for it, and is told of as it is.
 #[derive(Clone, Copy, PartialEq, Eq, Debug)]
 pub enum State {
     Open,

@@ -23,6 +23,7 @@ pub enum Money {
 pub struct Amount(pub u64);
 
 // Grosze of fees, O.
+// Kept: 2c: "Amounts (K) and fees (O) are two moneys and never add": two tuple structs over u64.
 #[repr(C)]
 #[derive(Clone, Copy, PartialEq, Eq, Debug)]
 pub struct Fee(pub u64);
@@ -142,6 +143,7 @@ impl Grosze for Fee {
 
     ghost LEAST = { 0 };
 
+    // Kept: 2d: the trait asks each money for its own least.
     const LEAST: u64 = 0;
 
     fn from_grosze(grosze: u64) -> Fee {
@@ -181,12 +183,14 @@ impl Amount {
 }
 
 // A fee has the caps of an amount.
-// Kept: 2d: "Both caps belong to the money": each of the two types has them as its own associated constants.
 impl Fee {
+    // Kept: 2d: "Both caps belong to the money": each of the two types has them as its own associated constants.
     pub const ORDER_CAP: u64 = Amount::ORDER_CAP;
 
+    // Kept: 2d: "Both caps belong to the money": each of the two types has them as its own associated constants.
     pub const SUM_CAP: u64 = Amount::SUM_CAP;
 
+    // Kept: 2d: "Both caps belong to the money": each of the two types has them as its own associated constants.
     pub const TOTAL_CAP: u64 = Amount::TOTAL_CAP;
 }
 
@@ -197,6 +201,7 @@ impl Sum {
         requires { WithinSum grosze }
         ensures { result ≡ sum_of money grosze }
     {
+        // Kept: 7a: each money is a type of its own, and a sum of one that is known only when it runs is made here alone.
         match money {
             Money::K => Sum::Amounts(Amount::sum(grosze)),
             Money::O => Sum::Fees(Fee::sum(grosze)),
@@ -219,6 +224,7 @@ impl Sum {
     pub fn grosze(self) -> u64
         ensures { result ≡ grosze_in self }
     {
+        // Kept: 7b: each money is a type of its own, and a sum of either is opened here alone.
         match self {
             Sum::Amounts(amount) => amount.0,
             Sum::Fees(fee) => fee.0,
@@ -230,6 +236,7 @@ impl Sum {
     pub fn money(self) -> Money
         ensures { result ≡ money_of_sum self }
     {
+        // Kept: 7b: which of the two types a sum is of is what a match says.
         match self {
             Sum::Amounts(_) => Money::K,
             Sum::Fees(_) => Money::O,
@@ -238,6 +245,7 @@ impl Sum {
 }
 
 // What a text says as an amount, with at most so many digits before the point.
+#[tactic(auto, using(crate::proofs::Reading::too_short, crate::proofs::Reading::not_shaped, crate::proofs::Reading::no_zlote, crate::proofs::Reading::no_grosze, crate::proofs::Reading::both_read, crate::proofs::Reading::hundred_more, text::proofs::Digits::tens_rise))]
 fn read(text: &[u8], most: usize) -> Option<Amount>
     requires { most ≤ 11 }
     ensures value { result ≡ text_of most text.now }

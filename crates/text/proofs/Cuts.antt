@@ -10,7 +10,7 @@ use native.Mathlib.Numerals.{add-one}
 use native.Mathlib.Omega.{arith}
 use lib.Dec.{eqb}
 use mir.Val.{bool_byte}
-use lib.ListN.{length, get_or, take, drop, set, replicate, length-append, get_or-append}
+use lib.ListN.{length, get_or, take, drop, set, replicate, get_or-append, length-set, length-take, drop_of_length-le}
 use lib.Seq.{take_all, take_at, take-append-le, take-append-add, take-suc-set, take-set-le, length-take-le, append_snoc}
 use Rattle.std.proofs.lemmas.List.{get_or-take}
 use Rattle.text.specs.Fields.{cuts_from, cut_table, cut_count}
@@ -28,19 +28,42 @@ note_byte separator s table i n h k = rw (from_here s i h) (go (eqb (get_or s i 
     go true rest = rw (add-one, take-suc-set table n i k, append_snoc (take n table) i rest)
     go false rest = rw (add-zero, take-set-le n table n i (le_refl n))
 
-module _ (table all rest : List ℕ) (n : ℕ) (whole : take n table ++ rest ≡ all) (fits : n ≤ length table) where
-  -- the text is at its end, or the table is full
-  pub noted_to_the_end : rest ≡ [] → (n ≡ min (length table) (length all)) × (take n table ≡ take (length table) all)
-  noted_to_the_end e =
-      let same : all ≡ take n table = sym whole ∙ rw e (append-nil (take n table)) in
-      let l : length all ≡ n = ap length same ∙ length-take-le n table fits in
-      (omega arith, sym same ∙ sym (take_all (length table) all (omega arith)))
+one_at_most : (t : Bool) → bool_byte t ≤ 1
+one_at_most true = omega arith
+one_at_most false = omega arith
 
-  pub noted_to_the_brim : n ≡ length table → (n ≡ min (length table) (length all)) × (take n table ≡ take (length table) all)
-  noted_to_the_brim e =
-      let held : length (take n table) ≡ length table = length-take-le n table fits ∙ e in
-      let l : length all ≡ length (take n table) + length rest = ap length (sym whole) ∙ length-append (take n table) rest in
-      (omega arith, sym (rw (← whole) (take_at (take n table) rest (length table) held)))
+-- the n places noted of the first i bytes, and the cuts of the bytes that are left, are all the cuts, as far as the table has room
+pub record Noted (separator : ℕ) (s table : List ℕ) (i n : ℕ) : Type 0 where
+  pub fits : n ≤ length table
+  pub whole : take (length table) (take n table ++ cuts_from separator i (drop i s)) ≡ take (length table) (cuts_from separator 0 s)
+
+module _ (separator : ℕ) (s table : List ℕ) (i n : ℕ) (noted : Noted separator s table i n) where
+  pub noted_more : i < length s → n < length table → Noted separator s (set table n i) (i + 1) (n + bool_byte (eqb (get_or s i 0) separator))
+  noted_more h k = record {
+    fits = simp length-set (omega (arith, one_at_most (eqb (get_or s i 0) separator)));
+    whole = rw (length-set, note_byte separator s table i n h k) noted.whole;
+  }
+
+  full : (rest : List ℕ) → length table ≤ n → take (length table) (take n table ++ rest) ≡ take n table
+  full rest k =
+      let e : n ≡ length table = omega (arith, noted.fits) in
+      rw (← e) (take_at (take n table) rest n (length-take-le n table noted.fits))
+
+  pub noted_full : length table ≤ n → Noted separator s table (i + 1) n
+  noted_full k = record {
+    fits = noted.fits;
+    whole = full (cuts_from separator (i + 1) (drop (i + 1) s)) k ∙ sym (full (cuts_from separator i (drop i s)) k) ∙ noted.whole;
+  }
+
+  -- the text is at its end
+  pub noted_all : length s ≤ i → (n ≡ cut_count (length table) separator s) × (take n table ≡ take (length table) (cuts_from separator 0 s))
+  unfolding cut_count cuts_from
+  noted_all h =
+      let all = cuts_from separator 0 s in
+      let held : length (take n table) ≡ n = length-take-le n table noted.fits in
+      let ended : take (length table) (take n table) ≡ take (length table) all = rw (drop_of_length-le s h, append-nil (take n table)) at noted.whole in
+      let same : take n table ≡ take (length table) all = sym (take_all (length table) (take n table) (omega (arith, held, noted.fits))) ∙ ended in
+      (sym held ∙ ap length same ∙ length-take (length table) all, same)
 
 take_replicate : (k m : ℕ) → k ≤ m → take {A = ℕ} k (replicate m 0) ≡ replicate k 0
 take_replicate zero m h = refl
@@ -60,10 +83,6 @@ padded n l = go (dec_le n (length l))
         let s : n ≡ length l + (n - length l) = omega arith in
         rw (m, take_all n l (omega arith), ← take_replicate (n - length l) n (omega arith))
         (sym (ap (λ (k : ℕ). take k (l ++ replicate n 0)) s ∙ take-append-add l (replicate n 0) (n - length l)))
-
-pub one_at_most : (t : Bool) → bool_byte t ≤ 1
-one_at_most true = omega arith
-one_at_most false = omega arith
 
 -- a cut is a place of the text
 cuts_within : (separator a k : ℕ) (s : List ℕ) → k < length (cuts_from separator a s) → get_or (cuts_from separator a s) k 0 < a + length s

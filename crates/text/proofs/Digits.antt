@@ -1,6 +1,6 @@
 -- Digits read from a place on, and how large the number can be.
 -- Assumes nothing.
-use mathlib.Core.Path.{◌≡◌, sym, ◌∙◌}
+use mathlib.Core.Path.{◌≡◌, refl}
 use mathlib.Core.Bool.{Bool, true, false, ◌&&◌}
 use mathlib.Core.List.{List, [], ◌∷◌}
 use Prim.Native.Nat.{ℕ, suc, ◌+◌, ◌*◌, ◌-◌, ◌^◌, ◌<◌, ◌≤◌}
@@ -10,18 +10,13 @@ use native.Mathlib.Omega.{arith}
 use borrow.Author.Tests.{leb-true}
 use lib.Dec.{leb, lit<}
 use lib.ListN.{length, get_or, drop, drop_of_length-le}
-use Rattle.std.specs.Char.{is_ascii_digit}
+use Rattle.std.specs.Bool.{then_some}
 use Rattle.text.specs.Bytes.{between, digit}
 use Rattle.std.specs.Prelude.{Option, Some, None, IfSome}
 use Rattle.std.specs.Option.{unwrap_or}
 use Rattle.text.specs.Number.{number_after, number}
 use Rattle.text.proofs.Branches.{and_left, and_right, cond_either}
 use Rattle.text.proofs.Places.{from_here}
-
--- what `is_ascii_digit` answers
-pub ascii_digit : {r t : Bool} (b : ℕ) → r ≡ is_ascii_digit b → r ≡ t → digit b ≡ t
-unfolding digit
-ascii_digit b is h = sym is ∙ h
 
 pub digit_range : (b : ℕ) → digit b ≡ true → (48 ≤ b) × (b ≤ 57)
 unfolding digit
@@ -30,15 +25,30 @@ digit_range b h = (
   leb-true b 57 (and_right (leb 48 b) (leb b 57) h),
 )
 
-module _ (n : ℕ) (s : List ℕ) (i : ℕ) where
-  pub number_on : i < length s → digit (get_or s i 0) ≡ true
-      → number_after n (drop i s) ≡ number_after (n * 10 + (get_or s i 0 - 48)) (drop (i + 1) s)
-  unfolding number_after
-  number_on h d = rw (from_here s i h) (rw d)
+-- what a byte says of a digit's value
+pub digit_said : (b r : ℕ) → Some r ≡ then_some (digit b) (b - 48) → (digit b ≡ true) × (r ≡ b - 48) × (r ≤ 9)
+digit_said b r e = go (digit b) refl e
+  where
+    go : (t : Bool) → digit b ≡ t → Some r ≡ then_some t (b - 48) → (digit b ≡ true) × (r ≡ b - 48) × (r ≤ 9)
+    go true d e = let same : r ≡ b - 48 = cc in (d, same, omega (arith, digit_range b d))
+    go false d e = cc
 
-  pub number_not : i < length s → digit (get_or s i 0) ≡ false → number_after n (drop i s) ≡ None
+no_digit_said : (b x : ℕ) → None ≡ then_some (digit b) x → digit b ≡ false
+no_digit_said b x e = go (digit b) e
+  where
+    go : (t : Bool) → None ≡ then_some t x → t ≡ false
+    go true e = cc
+    go false e = refl
+
+module _ (n : ℕ) (s : List ℕ) (i : ℕ) where
+  pub number_on : (r : ℕ) → i < length s → Some r ≡ then_some (digit (get_or s i 0)) (get_or s i 0 - 48)
+      → number_after (n * 10 + r) (drop (i + 1) s) ≡ number_after n (drop i s)
   unfolding number_after
-  number_not h d = rw (from_here s i h) (rw d)
+  number_on r h e = let said = digit_said (get_or s i 0) r e in rw (from_here s i h, said.0, said.1) refl
+
+  pub number_not : i < length s → None ≡ then_some (digit (get_or s i 0)) (get_or s i 0 - 48) → number_after n (drop i s) ≡ None
+  unfolding number_after
+  number_not h e = rw (from_here s i h, no_digit_said (get_or s i 0) (get_or s i 0 - 48) e) refl
 
   pub number_end : length s ≤ i → number_after n (drop i s) ≡ Some n
   unfolding number_after
@@ -50,6 +60,10 @@ ten_more i = rw (add-one, pow-suc)
 
 pub tens_rise : {i j : ℕ} → i ≤ j → 10 ^ i ≤ 10 ^ j
 tens_rise h = pow-le-pow_right (lit< tt) h
+
+-- a digit more than at most 17 that were read
+pub one_more : (n i : ℕ) → n < 10 ^ i → i < 18 → (n * 10 + 10 ≤ 10 ^ (i + 1)) × (10 ^ (i + 1) ≤ 10 ^ 18)
+one_more n i h l = (omega (arith, ten_more i), tens_rise {i = i + 1} {j = 18} (omega arith))
 
 pub below_larger : {m n : ℕ} (r : Option ℕ) → m ≤ n → IfSome r (λ x. x < m) → IfSome r (λ x. x < n)
 below_larger (Some x) h b = omega arith

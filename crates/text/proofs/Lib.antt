@@ -2,7 +2,6 @@ pub mod Branches
 pub mod Places
 pub mod Same
 pub mod Digits
-pub mod Finding
 pub mod Cuts
 pub mod FieldsByCuts
 pub mod FieldsByTable

@@ -2,13 +2,14 @@
 --     line_here        a line that ends with CR LF, and the lines after it
 --     last_line_here   the line that ends with the text
 -- Assumes nothing.
-use mathlib.Core.Path.{◌≡◌, refl, sym, ap, ◌∙◌}
-use mathlib.Core.Bool.{Bool, true, false, cond, not, ◌&&◌}
+use mathlib.Core.Path.{◌≡◌, refl, sym, ap, subst, ◌∙◌}
+use mathlib.Core.Logic.{◌⊎◌, inl, inr}
+use mathlib.Core.Bool.{Bool, true, false, cond, ◌&&◌}
 use mathlib.Core.List.{List, [], ◌∷◌}
-use Prim.Native.Nat.{ℕ, suc, ◌+◌, ◌-◌, ◌<◌, ◌≤◌}
+use Prim.Native.Nat.{ℕ, zero, suc, ◌+◌, ◌-◌, ◌<◌, ◌≤◌}
 use native.Mathlib.Nat.{add-zero, zero-add}
 use native.Mathlib.Omega.{arith}
-use borrow.Author.Tests.{eq-eqb, ne_eqb}
+use borrow.Author.Tests.{eq-eqb, ne_eqb, eqb-true}
 use denote.Bor.{Bor}
 use lib.Dec.{eqb}
 use lib.ListN.{length, get_or, drop, take, drop_of_length-le, length-drop, get_or-eq_default}
@@ -16,7 +17,11 @@ use lib.Seq.{drop-drop, get_or-drop}
 use lib.Pointwise.{pointwise}
 use Rattle.std.specs.Prelude.{Option, Some, None, MatchOption}
 use Rattle.std.specs.Option.{unwrap_or}
-use Rattle.text.specs.Bytes.{before, part}
+use Rattle.std.specs.List.{AllWithin, HoldsAt}
+use Rattle.std.specs.Iterator.{AlwaysYields}
+use Rattle.std.proofs.lemmas.Iterator.{YieldsList}
+use Rattle.memchr.specs.Find.{TakesFirst, is_byte, places_from, places}
+use Rattle.text.specs.Bytes.{part}
 use Rattle.text.specs.Fields.{onto}
 use Rattle.text.specs.Lines.{crlf, parted, without_last_end, line_stop}
 use Rattle.text.proofs.Branches.{both_yes, second_no}
@@ -54,37 +59,76 @@ too_short_to_end s h =
     let z : get_or s (length s - 2 + 1) 0 ≡ 0 = get_or-eq_default s 0 {n = length s - 2 + 1} (omega arith) in
     no_lf_at_end s (λ e. let never = sym z ∙ e in absurd (omega arith))
 
--- the bytes before the first CR have no CR LF
-stop_past_cr : (s : List ℕ) → line_stop s ≡ before 13 s + line_stop (drop (before 13 s) s)
-unfolding line_stop
-stop_past_cr [] = refl
-stop_past_cr (b ∷ s) = go (eqb b 13) refl (stop_past_cr s)
+-- a line goes on to the first CR with an LF behind it, which is looked for among the places of CR
+module _ (s : List ℕ) where
+  abbrev pub LfBehind : ℕ → Type 0
+  LfBehind k = get_or (drop k s) 1 0 ≡ 10
+
+  abbrev pub NoLfBehind : ℕ → Type 0
+  NoLfBehind k = get_or (drop k s) 1 0 ≡ 10 → ⊥
+
+  abbrev FirstOf : List ℕ → Option ℕ → Type 0
+  FirstOf places r = MatchOption r (AllWithin NoLfBehind places 0 (length places))
+      (λ x. LfBehind x × (j : ℕ) × (j < length places) × HoldsAt (λ y. y ≡ x) places j × AllWithin NoLfBehind places 0 j)
+
+  -- the first of some places is it, or it is among the others
+  first_or_later : (i : ℕ) (later : List ℕ) (r : Option ℕ) → FirstOf (i ∷ later) r
+      → ((r ≡ Some i) × LfBehind i) ⊎ (NoLfBehind i × FirstOf later r)
+  first_or_later i later None h = inr (h 0 0 (omega arith) (omega arith), λ k d l m. h (suc k) d (omega arith) (omega arith))
+  first_or_later i later (Some x) h = go h.1 h.2 h.3 h.4
+    where
+      go : (j : ℕ) → j < suc (length later) → HoldsAt (λ y. y ≡ x) (i ∷ later) j → AllWithin NoLfBehind (i ∷ later) 0 j
+          → ((Some x ≡ Some i) × LfBehind i) ⊎ (NoLfBehind i × FirstOf later (Some x))
+      go zero l at before = let same : i ≡ x = at 0 in inl (rw same refl, rw same h.0)
+      go (suc j) l at before = inr (before 0 0 (omega arith) (omega arith), (h.0, j, omega arith, (λ d. at d), λ k d m n. before (suc k) d (omega arith) (omega arith)))
+
+  module _ (i : ℕ) where
+    stop_here : i < length s → get_or s i 0 ≡ 13 → LfBehind i → line_stop (drop i s) ≡ 0
+    unfolding line_stop
+    stop_here h e f =
+        let g = sym (get_or-drop i s 1 0) ∙ f in
+        rw (from_here s i h)
+        (rw (get_or-drop, add-zero) (rw (both_yes (eqb (get_or s i 0) 13) (eqb (get_or s (i + 1) 0) 10) (eq-eqb (get_or s i 0) 13 e) (eq-eqb (get_or s (i + 1) 0) 10 g))))
+
+    stop_on : i < length s → (eqb (get_or s i 0) 13 && eqb (get_or s (i + 1) 0) 10) ≡ false → line_stop (drop i s) ≡ suc (line_stop (drop (i + 1) s))
+    unfolding line_stop
+    stop_on h f = rw (from_here s i h) (rw (get_or-drop, add-zero) (rw f))
+
+    stop_end : length s ≤ i → line_stop (drop i s) ≡ 0
+    unfolding line_stop
+    stop_end h = rw (drop_of_length-le s h)
+
+  stop_found : (n i : ℕ) → i + n ≡ length s → (r : Option ℕ) → FirstOf (places_from (λ x. eqb x 13) s i n) r → unwrap_or r (length s) ≡ i + line_stop (drop i s)
+  unfolding places_from
+  stop_found zero i e None h = omega (arith, stop_end i (omega arith))
+  stop_found zero i e (Some x) h = absurd (omega (arith, h.2))
+  stop_found (suc n) i e r h = go (eqb (get_or s i 0) 13) refl h (stop_found n (i + 1) (omega arith) r)
+    where
+      on : (eqb (get_or s i 0) 13 && eqb (get_or s (i + 1) 0) 10) ≡ false → unwrap_or r (length s) ≡ i + 1 + line_stop (drop (i + 1) s)
+          → unwrap_or r (length s) ≡ i + line_stop (drop i s)
+      on f later = omega (arith, later, stop_on i (omega arith) f)
+
+      go : (t : Bool) → eqb (get_or s i 0) 13 ≡ t
+          → FirstOf (cond t (i ∷ places_from (λ x. eqb x 13) s (i + 1) n) (places_from (λ x. eqb x 13) s (i + 1) n)) r
+          → (FirstOf (places_from (λ x. eqb x 13) s (i + 1) n) r → unwrap_or r (length s) ≡ i + 1 + line_stop (drop (i + 1) s))
+          → unwrap_or r (length s) ≡ i + line_stop (drop i s)
+      go false e₁ found later = on (rw e₁) (later found)
+      go true e₁ found later = by (first_or_later i (places_from (λ x. eqb x 13) s (i + 1) n) r found)
+        where
+          by : ((r ≡ Some i) × LfBehind i) ⊎ (NoLfBehind i × FirstOf (places_from (λ x. eqb x 13) s (i + 1) n) r) → unwrap_or r (length s) ≡ i + line_stop (drop i s)
+          by (inl here) = rw here.0 (omega (arith, stop_here i (omega arith) (eqb-true (get_or s i 0) 13 e₁) here.1))
+          by (inr further) = on (second_no (eqb (get_or s i 0) 13) (eqb (get_or s (i + 1) 0) 10) (ne_eqb (get_or s (i + 1) 0) 10 (λ f. further.0 (get_or-drop i s 1 0 ∙ f)))) (later further.1)
+
+  pub line_found : (r : Option ℕ) → FirstOf (places (is_byte 13) s) r → unwrap_or r (length s) ≡ line_stop s
+  line_found r h = stop_found (length s - 0) 0 (omega arith) r h ∙ zero-add (line_stop s)
+
+-- an iterator over places gives them one by one
+pub each_in_turn : (places : List ℕ) → YieldsList TakesFirst (λ x. x) places places
+each_in_turn places = record { runs = go places }
   where
-    go : (t : Bool) → eqb b 13 ≡ t → line_stop s ≡ before 13 s + line_stop (drop (before 13 s) s)
-        → cond (t && eqb (get_or s 0 0) 10) 0 (suc (line_stop s))
-        ≡ cond (not t) (1 + before 13 s) 0 + line_stop (drop (cond (not t) (1 + before 13 s) 0) (b ∷ s))
-    go true e r = rw (e, zero-add)
-    go false e r = let n : 1 + before 13 s ≡ suc (before 13 s) = omega arith in rw n (omega arith)
-
-module _ (s : List ℕ) (i : ℕ) where
-  pub stop_from_cr : i + before 13 (drop i s) + line_stop (drop (i + before 13 (drop i s)) s) ≡ i + line_stop (drop i s)
-  stop_from_cr = omega (arith, rw drop-drop at (stop_past_cr (drop i s)))
-
-  pub stop_here : i < length s → get_or s i 0 ≡ 13 → get_or s (i + 1) 0 ≡ 10 → line_stop (drop i s) ≡ 0
-  unfolding line_stop
-  stop_here h e f =
-      rw (from_here s i h)
-      (rw (get_or-drop, add-zero) (rw (both_yes (eqb (get_or s i 0) 13) (eqb (get_or s (i + 1) 0) 10) (eq-eqb (get_or s i 0) 13 e) (eq-eqb (get_or s (i + 1) 0) 10 f))))
-
-  pub stop_on : i < length s → (get_or s (i + 1) 0 ≡ 10 → ⊥) → line_stop (drop i s) ≡ suc (line_stop (drop (i + 1) s))
-  unfolding line_stop
-  stop_on h f =
-      rw (from_here s i h)
-      (rw (get_or-drop, add-zero) (rw (second_no (eqb (get_or s i 0) 13) (eqb (get_or s (i + 1) 0) 10) (ne_eqb (get_or s (i + 1) 0) 10 f))))
-
-  pub stop_end : length s ≤ i → line_stop (drop i s) ≡ 0
-  unfolding line_stop
-  stop_end h = rw (drop_of_length-le s h)
+    go : (places : List ℕ) → AlwaysYields TakesFirst (λ x. x) places places
+    go [] = λ x j e. cc
+    go (y ∷ ys) = (λ j e. cc, λ x j e. let same : ys ≡ j = cc in ((let one : x ≡ y = cc in one), subst (λ t. AlwaysYields TakesFirst (λ x. x) t ys) same (go ys)))
 
 -- a text parted: its first line, and the lines after the CR LF
 lone_byte : (b : ℕ) → crlf b 0 ≡ false

@@ -6,7 +6,7 @@ use mathlib.Core.List.{List, [], ◌∷◌}
 use Prim.Native.Nat.{ℕ}
 use lib.ListN.{length, replicate}
 use Rattle.text.specs.Utf8.{ascii, tail_octet, lead2, lead3, lead4, point2, point3, point4, surrogate, range2, range3, range4, row2, row3, row4}
-use Rattle.text.specs.Utf8.{width, well_formed_after, well_formed, starts, code_points}
+use Rattle.text.specs.Utf8.{width, well_formed_after, well_formed, code_points}
 use Rattle.text.specs.Utf8Encoded.{encoded, encoded_all}
 
 -- names the definitions that the examples compute
@@ -51,5 +51,5 @@ abbrev letters : List ℕ
 letters = encoded_all (replicate 31 0x141)
 
 counted : (length letters ≡ 62) × (code_points letters ≡ 31) × (well_formed letters ≡ true)
-unfolding judged encoded encoded_all starts code_points
+unfolding judged encoded encoded_all
 counted = (refl, refl, refl)

@@ -120,11 +120,14 @@ stands_within s i h = go (dec_lt i (length s))
     go (yes l) = l
     go (no n) = absurd (omega (arith, get_or-eq_default s 0 (not_below n)))
 
--- so a character ends within the text that it starts
-pub ends_within : (s : List ℕ) → 0 < length s → width_at s 0 ≤ length s
-ends_within s h =
-    by_rows s 0 (λ n p. n ≤ length s) (λ e. omega arith)
-    (λ e. let r = row2_says (get_or s 0 0) (get_or s 1 0) e in omega (arith, stands_within s 1 (omega arith)))
-    (λ e. let r = row3_says (get_or s 0 0) (get_or s 1 0) (get_or s 2 0) e in omega (arith, stands_within s 2 (omega arith)))
-    (λ e. let r = row4_says (get_or s 0 0) (get_or s 1 0) (get_or s 2 0) (get_or s 3 0) e in omega (arith, stands_within s 3 (omega arith)))
-    (λ p. omega arith)
+-- so a row that fits ends within the text
+pub row2_fits : (s : List ℕ) → row2 (get_or s 0 0) (get_or s 1 0) ≡ true → 2 ≤ length s
+row2_fits s e = let r = row2_says (get_or s 0 0) (get_or s 1 0) e in omega (arith, stands_within s 1 (omega arith))
+
+pub row3_fits : (s : List ℕ) → row3 (get_or s 0 0) (get_or s 1 0) (get_or s 2 0) ≡ true → 3 ≤ length s
+row3_fits s e = let r = row3_says (get_or s 0 0) (get_or s 1 0) (get_or s 2 0) e in omega (arith, stands_within s 2 (omega arith))
+
+pub row4_fits : (s : List ℕ) → row4 (get_or s 0 0) (get_or s 1 0) (get_or s 2 0) (get_or s 3 0) ≡ true → 4 ≤ length s
+row4_fits s e =
+    let r = row4_says (get_or s 0 0) (get_or s 1 0) (get_or s 2 0) (get_or s 3 0) e in
+    omega (arith, stands_within s 3 (omega arith))

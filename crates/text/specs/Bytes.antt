@@ -1,6 +1,6 @@
--- Bytes: digits and letters, parts of a text, equality of two texts, and where a byte stands.
+-- Bytes: digits and letters, parts of a text, equality of two texts, and whether a byte stands in one.
 use Rattle.std.specs.Prelude.{Bool, ◌&&◌, ◌||◌, List, ℕ, ◌-◌, leb, eqb, take, drop}
-use Rattle.std.specs.List.{list_all, list_any, position_or_len}
+use Rattle.std.specs.List.{list_all, list_any}
 use lib.Pointwise.{pointwise}
 
 -- from low to high, both included
@@ -32,7 +32,3 @@ same = pointwise eqb
 -- a byte stands in a text
 abbrev pub has_byte : ℕ → List ℕ → Bool
 has_byte b = list_any (λ x. eqb x b)
-
--- how many bytes stand before the first b: its place, or the length
-abbrev pub before : ℕ → List ℕ → ℕ
-before b = position_or_len (λ x. eqb x b)

@@ -8,6 +8,7 @@
 --     0000 0800-0000 FFFF | 1110xxxx 10xxxxxx 10xxxxxx
 --     0001 0000-0010 FFFF | 11110xxx 10xxxxxx 10xxxxxx 10xxxxxx
 use Rattle.std.specs.Prelude.{◌≡◌, Bool, true, false, cond, not, ◌&&◌, List, [], ◌∷◌, ℕ, zero, suc, pred, ◌+◌, ◌*◌, ◌/◌, ◌%◌, leb, ltb, eqb, length, get_or}
+use Rattle.std.specs.List.{count_by}
 
 -- The octets of the right column, by the bits that the table fixes: 0xxxxxxx, 10xxxxxx, 110xxxxx, 1110xxxx, 11110xxx.
 unfoldable pub ascii : ℕ → Bool
@@ -96,12 +97,8 @@ abbrev pub decoded : List ℕ → List ℕ
 decoded s = decoded_after 0 s
 
 -- "Lengths count code points, not bytes": the octets that are no tail.
-unfoldable pub starts : ℕ → ℕ
-starts b = cond (tail_octet b) 0 1
-
-unfoldable pub code_points : List ℕ → ℕ
-code_points [] = 0
-code_points (b ∷ s) = starts b + code_points s
+abbrev pub code_points : List ℕ → ℕ
+code_points = count_by (λ b. not (tail_octet b))
 
 -- On well-formed text that count is the number of code points that the decoder steps over.
 abbrev pub CountsWhatIsDecoded : Type 0

@@ -1,10 +1,9 @@
-// Bytes: letters and digits, parts of a text, and a byte looked for.
-ghost use Rattle.std.specs.Prelude.{◌≡◌, ◌+◌, get_or, take, drop};
-ghost use Rattle.text.specs.Bytes.{letters_or_digits, part, before};
-
-use memchr::memchr;
+// Bytes: letters and digits, and parts of a text.
+ghost use Rattle.std.specs.Prelude.{◌≡◌, get_or, take, drop};
+ghost use Rattle.text.specs.Bytes.{letters_or_digits, part};
 
 // Are all bytes letters or digits?
+// Kept: 4a: it is the library's `all` of its own tests already, under the name that its two callers ask by.
 #[tactic(auto, unfolding(crate::specs::Bytes::letter_or_digit, crate::specs::Bytes::digit, crate::specs::Bytes::letter))]
 pub fn are_letters_or_digits(s: &[u8]) -> bool
     ensures { result ≡ letters_or_digits s.now }
@@ -14,6 +13,7 @@ pub fn are_letters_or_digits(s: &[u8]) -> bool
 }
 
 // The byte at a place, 0 past the end.
+// Kept: 1f: the definitions read a text so (`get_or .. 0`), as a character's octets do of RFC 3629: 0 is no tail, so that nothing is cut off.
 pub fn byte_at(s: &[u8], i: usize) -> u8
     ensures { result ≡ get_or s.now i 0 }
 {
@@ -40,13 +40,4 @@ pub fn rest(s: &[u8], n: usize) -> &[u8]
     ensures { result.now ≡ drop n s.now }
 {
     &s[n.min(s.len())..]
-}
-
-// Where b comes next from a place on, or the end of the text; a place past the end is its own answer.
-#[tactic(auto, using(crate::proofs::Finding::before_first))]
-pub fn find(s: &[u8], b: u8, from: usize) -> usize
-    ensures { result ≡ from + before b (drop from s.now) }
-{
-    let behind = rest(s, from);
-    from + memchr(b, behind).unwrap_or(behind.len())
 }

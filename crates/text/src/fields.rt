@@ -5,6 +5,7 @@ ghost use Rattle.text.specs.Fields.{fields, cuts, cut_table, cut_count, field_by
 use crate::bytes::slice;
 
 // A text with the places of its separators, as many as there is room for, and zeros behind them.
+// Kept: 6a: the place behind the last is written first and counted then, so that no byte costs a branch; a table that grows by pushes has one at each.
 #[derive(Drop)]
 pub struct Fields<'a, const SEPARATOR: u8, const ROOM: usize> {
     text: &'a [u8],
@@ -72,6 +73,7 @@ impl<'a, const SEPARATOR: u8, const ROOM: usize> Fields<'a, SEPARATOR, ROOM> {
     }
 
     // The place of separator k.
+    #[tactic(auto, using(crate::proofs::Cuts::cut_within), unfolding(crate::specs::Fields::cut_count))]
     fn cut_at(&self, k: usize) -> usize
         requires { k < cut_count ROOM SEPARATOR self.now.text.now }
         ensures value { result ≡ get_or (cut_table ROOM SEPARATOR self.now.text.now) k 0 }
@@ -100,11 +102,10 @@ fn note_cuts(s: &[u8], separator: u8, table: &mut [usize]) -> usize
 {
     let mut count = 0;
     for (i, b) in s.iter().enumerate() {
-        if count == table.len() {
-            return count;
+        if count < table.len() {
+            table[count] = i;
+            count += usize::from(*b == separator);
         }
-        table[count] = i;
-        count += usize::from(*b == separator);
     }
     count
 }

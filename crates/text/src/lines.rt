@@ -2,13 +2,15 @@
 ghost use Rattle.std.specs.Prelude.{◌≡◌, ◌+◌, drop};
 ghost use Rattle.text.specs.Lines.{without_last_end, line_stop, stray};
 
-use crate::bytes::{byte_at, find};
+use crate::bytes::{byte_at, rest};
+use memchr::memchr_iter;
 
 const CR: u8 = 0x0D;
 
 const LF: u8 = 0x0A;
 
 // The text without one CR LF at its very end.
+#[tactic(auto, using(crate::proofs::LineEnds::end_stripped))]
 pub fn without_last_end(s: &[u8]) -> &[u8]
     ensures { result.now ≡ without_last_end s.now }
 {
@@ -19,15 +21,10 @@ pub fn without_last_end(s: &[u8]) -> &[u8]
 pub fn line_end(s: &[u8], from: usize) -> usize
     ensures { result ≡ from + line_stop (drop from s.now) }
 {
-    let mut i = find(s, CR, from);
-    while i < s.len() {
-        let next = i + 1;
-        if byte_at(s, next) == LF {
-            return i;
-        }
-        i = find(s, CR, next);
-    }
-    i
+    let behind = rest(s, from);
+    from + memchr_iter(CR, behind)
+        .find(|i| byte_at(rest(behind, *i), 1) == LF)
+        .unwrap_or(behind.len())
 }
 
 // Has a line a CR or LF of its own?

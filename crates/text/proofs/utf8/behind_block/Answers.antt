@@ -7,4 +7,4 @@ use Rattle.text.proofs.utf8.behind_block.Goals as goal
 pub returns-then-all_ascii : goal.returns-then-all_ascii
 returns-then-all_ascii c =
     let cut = c.in-Some.ensures.cases in
-    rw cut.1 (past_ascii BLOCK c.args.s.now (omega arith) (omega (arith, cut)) (rw cut.0 at (c.all_ascii.ensures c.if-all_ascii.true)))
+    rw cut.1 (past_ascii c.args.s.now BLOCK (omega arith) (omega (arith, cut)) (rw cut.0 at (c.all_ascii.ensures c.if-all_ascii.true)))

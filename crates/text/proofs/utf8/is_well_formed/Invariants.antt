@@ -4,8 +4,8 @@ use lib.ListN.{length}
 use Rattle.text.specs.Utf8.{well_formed}
 use Rattle.text.proofs.utf8.is_well_formed.Given as goal
 
-abbrev pub invariant-loop-left : goal.invariant-loop-left
-invariant-loop-left l = well_formed l.left ≡ well_formed l.s
+abbrev pub invariant-loop-behind : goal.invariant-loop-behind
+invariant-loop-behind l = well_formed l.left ≡ well_formed l.s
 
-abbrev pub decreases-loop-left : goal.decreases-loop-left
-decreases-loop-left l = length l.left
+abbrev pub decreases-loop-behind : goal.decreases-loop-behind
+decreases-loop-behind l = length l.left
