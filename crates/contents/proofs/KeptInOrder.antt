@@ -1,13 +1,13 @@
 -- Orders that were kept in a table are there, each in its place, and an order is read from its number.
 -- Assumes nothing.
-use mathlib.Core.Path.{◌≡◌, refl, ◌∙◌}
+use mathlib.Core.Path.{◌≡◌, refl, sym, ◌∙◌}
 use mathlib.Core.Bool.{true, false, cond}
 use mathlib.Core.List.{List, [], ◌∷◌}
 use Prim.Native.Nat.{ℕ, ◌+◌, ◌/◌, ◌%◌, ◌<◌, ◌≤◌}
 use native.Mathlib.Omega.{arith}
 use borrow.Author.Tests.{le-leb}
 use lib.ListN.{length, get_or, set, length-set}
-use lib.Seq.{get_or-set_same, get_or-set_other}
+use lib.Seq.{get_or-set_same, get_or-set_other, set_out}
 use Rattle.money.specs.Money.{amount, order_cap, is_order_amount}
 use Rattle.contents.specs.Accepted.{OrderInRange, EachInRange}
 use Rattle.contents.specs.Kept.{kept_code, order_from, order_in, orders_in, kept_from, KeptInOrder}
@@ -17,6 +17,10 @@ use Rattle.contents.specs.declared.record.Order.{Order}
 module _ (n : ℕ) where
   pub no_amount : is_order_amount n ≡ false → amount 0 ≡ amount (cond (is_order_amount n) n 0)
   no_amount h = rw h
+
+-- an order for which the table has no entry
+pub kept_beyond : (table : List ℕ) (j n : ℕ) → length table ≤ j → table ≡ set table j n
+kept_beyond table j n h = sym (set_out table j n h)
 
 -- an order comes back from its number
 decoded : (order : Order) (table : List ℕ) (j : ℕ) → OrderInRange order → get_or table j 0 ≡ kept_code order → order_in table j ≡ order

@@ -8,3 +8,4 @@ pub mod KeptInOrder
 pub mod RecordExamples
 pub mod AroundExamples
 pub mod FileExamples
+pub mod Stating

@@ -30,7 +30,7 @@ pub struct Stated {
 }
 
 // What the header states of the records, where a profile and it pass the questions 905, 907 and 102 to 131.
-#[tactic(auto, using(epe::proofs::Asking::join_no, epe::proofs::Asking::join_yes), unfolding(crate::specs::Steps::stated_of))]
+#[tactic(auto, using(epe::proofs::Asking::join_no, epe::proofs::Asking::join_yes), unfolding(crate::specs::Steps::stated_of, crate::specs::Steps::stated_in))]
 pub fn judge_stated(profile: Profile, file: &[u8]) -> Result<Stated, Refusal>
     ensures verdict { verdict_of result ≡ first_no (header_questions profile (header file.now)) }
     ensures stated { IfOk result (λ stated. stated ≡ stated_of profile file.now) }
@@ -38,20 +38,9 @@ pub fn judge_stated(profile: Profile, file: &[u8]) -> Result<Stated, Refusal>
     judge_profile(profile)?;
     let line = Line::of(header_of(file));
     judge_dates(&line, profile.today)?;
-    judge_count_and_sum(&line)?;
-    Ok(read_stated(&line, profile))
-}
-
-// What a header states.
-#[tactic(auto, unfolding(crate::specs::Steps::stated_in))]
-fn read_stated(line: &Line<'_>, profile: Profile) -> Stated
-    ensures { result ≡ stated_in profile line.now.text.now }
-{
-    Stated {
-        count: stated_count(line),
-        sum: stated_sum(line),
-        terms: terms_of(profile, stated_kind(line)),
-    }
+    let (count, sum) = read_count_and_sum(&line)?;
+    let terms = terms_of(profile, stated_kind(&line));
+    Ok(Stated { count, sum, terms })
 }
 
 // The questions 102 to 125.
@@ -104,67 +93,25 @@ fn is_unit(line: &Line<'_>) -> bool
     s.len() == 6 && are_letters_or_digits(s)
 }
 
-// The questions 126 to 131.
-#[tactic(auto, using(epe::proofs::Asking::asking), unfolding(crate::specs::Contents::stated_questions))]
-fn judge_count_and_sum(line: &Line<'_>) -> Result<(), Refusal>
-    ensures { verdict_of result ≡ first_no (stated_questions line.now.text.now) }
+// How many orders the header states, and their sum in grosze: the questions 126 to 131.
+#[tactic(auto, using(epe::proofs::Asking::asking, crate::proofs::Stating::stating), unfolding(crate::specs::Contents::stated_questions))]
+fn read_count_and_sum(line: &Line<'_>) -> Result<(u64, u64), Refusal>
+    ensures verdict { verdict_of result ≡ first_no (stated_questions line.now.text.now) }
+    ensures stated { IfOk result (λ stated. (stated.0 ≡ stated_count line.now.text.now) × (stated.1 ≡ stated_sum line.now.text.now)) }
 {
-    if !states_count(line) {
+    let Some(count) = number::read(line.nth(11), 1, 6) else {
         return Err(Refusal::Count);
-    }
-    if !states_orders(line) {
+    };
+    if count == 0 {
         return Err(Refusal::CountZero);
     }
-    if !states_sum(line) {
+    let Some(sum) = Amount::read_sum(line.nth(12)) else {
         return Err(Refusal::Sum);
-    }
-    if !states_money(line) {
+    };
+    if sum.0 == 0 {
         return Err(Refusal::SumZero);
     }
-    Ok(())
-}
-
-// Is field 11 one to six digits?
-fn states_count(line: &Line<'_>) -> bool
-    ensures { result ≡ is_some (number 1 6 (field 11 line.now.text.now)) }
-{
-    number::read(line.nth(11), 1, 6).is_some()
-}
-
-// Does the header state at least one order?
-fn states_orders(line: &Line<'_>) -> bool
-    ensures { result ≡ leb 1 (stated_count line.now.text.now) }
-{
-    1 <= stated_count(line)
-}
-
-// How many orders the header states.
-fn stated_count(line: &Line<'_>) -> u64
-    ensures { result ≡ stated_count line.now.text.now }
-{
-    number::read(line.nth(11), 1, 6).unwrap_or(0)
-}
-
-// Does field 12 read as a sum?
-fn states_sum(line: &Line<'_>) -> bool
-    ensures { result ≡ is_some (sum_text (field 12 line.now.text.now)) }
-{
-    Amount::read_sum(line.nth(12)).is_some()
-}
-
-// Does the header state a sum above zero?
-fn states_money(line: &Line<'_>) -> bool
-    ensures { result ≡ ltb 0 (stated_sum line.now.text.now) }
-{
-    0 < stated_sum(line)
-}
-
-// The sum that the header states, in grosze.
-#[tactic(auto, unfolding(money::specs::Money::grosze_of))]
-fn stated_sum(line: &Line<'_>) -> u64
-    ensures { result ≡ stated_sum line.now.text.now }
-{
-    Amount::read_sum(line.nth(12)).map_or(0, |sum| sum.0)
+    Ok((count, sum.0))
 }
 
 // The kind that the header states; what is no digit is none.

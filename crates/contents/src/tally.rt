@@ -24,7 +24,7 @@ pub struct Tally {
 }
 
 // The tally of the record lines from a place on, if all are shaped; their orders are kept as they are read, up to the first that is not.
-// Kept: 5a: terms are also what a profile or lent memory says before it is judged, any numbers at all, so that their type can't have the caps.
+// Kept: 5a: terms are also what the C interface lends, in a profile or in memory, before it is judged: any numbers, so that their type can't have the caps.
 // Kept: 6d: one number to an order, since a table of orders as they are takes all the caller's stack (`order_in`).
 pub fn tally_records(
     s: &[u8],
@@ -57,6 +57,7 @@ pub fn tally_records(
 
 // Keeps an order in entry j, where the table has that entry.
 // Kept: 6d: one number to an order, since a table of orders as they are takes all the caller's stack (`order_in`).
+#[tactic(auto, using(crate::proofs::KeptInOrder::kept_beyond))]
 fn keep(kept: &mut [u64], j: u64, order: Order)
     requires { Keepable order }
     ensures { kept.new ≡ set kept.old j (kept_code order) }
@@ -67,7 +68,7 @@ fn keep(kept: &mut [u64], j: u64, order: Order)
 }
 
 // The tally with one order more, on the terms of its fee.
-// Kept: 5a: terms are also what a profile or lent memory says before it is judged, any numbers at all, so that their type can't have the caps.
+// Kept: 5a: terms are also what the C interface lends, in a profile or in memory, before it is judged: any numbers, so that their type can't have the caps.
 #[tactic(auto, using(crate::proofs::TallyWalk::charge_within), unfolding(crate::specs::Inner::Tally::added))]
 fn with_order(terms: Terms, tally: Tally, order: Order) -> Tally
     requires { SmallTally tally order × TermsFit terms }

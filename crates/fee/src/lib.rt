@@ -43,7 +43,7 @@ impl Rate {
 }
 
 // What an order of an amount is charged on some terms; a fee above its cap is none.
-// Kept: 5a: terms are also what a profile or lent memory says before it is judged, any numbers at all, so that their type can't have the caps.
+// Kept: 5a: terms are also what the C interface lends, in a profile or in memory, before it is judged: any numbers, so that their type can't have the caps.
 #[tactic(auto, using(text::proofs::Branches::branches), unfolding(crate::specs::Fee::charged_by))]
 pub fn charge_on(terms: Terms, amount: Amount) -> Option<Charge>
     requires { TermsFit terms × WithinOrder amount.0 }
@@ -62,7 +62,7 @@ pub fn charge_on(terms: Terms, amount: Amount) -> Option<Charge>
 
 // In which bits the two sides of an order's division differ: 10,000 times the fee with the remainder, and the amount times the rate with 10,000 times the
 // flat part. Nothing is asked and nothing subtracted, so that a loop takes many orders at a time.
-// Kept: 5a: terms are also what a profile or lent memory says before it is judged, any numbers at all, so that their type can't have the caps.
+// Kept: 5a: terms are also what the C interface lends, in a profile or in memory, before it is judged: any numbers, so that their type can't have the caps.
 #[tactic(auto, using(crate::proofs::Division::small_product), unfolding(crate::specs::Inner::Difference::difference_in))]
 pub fn difference(terms: Terms, amount: u64, fee: u64, remainder: u64) -> u64
     requires { TermsFit terms × (amount < 2 ^ 32) × (fee < 2 ^ 32) × (remainder < 2 ^ 16) }

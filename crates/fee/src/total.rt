@@ -29,7 +29,7 @@ pub fn amount_for(flat: u64, rate: u64, total: u64) -> Result<Option<Amount>, Re
 
 // The amount that makes a total on some terms, if there is one. Only one could: the total without the flat part, times 10,000, over 10,000 and the rate,
 // rounded up.
-// Kept: 5a: terms are also what a profile or lent memory says before it is judged, any numbers at all, so that their type can't have the caps.
+// Kept: 5a: terms are also what the C interface lends, in a profile or in memory, before it is judged: any numbers, so that their type can't have the caps.
 #[tactic(auto, using(text::proofs::Branches::branches, crate::proofs::Totals::out_of_reach, crate::proofs::Totals::makes_within), unfolding(crate::specs::Total::found_for))]
 fn find(terms: Terms, total: u64) -> Option<Amount>
     requires { TermsFit terms }
@@ -47,7 +47,7 @@ fn find(terms: Terms, total: u64) -> Option<Amount>
 }
 
 // Does an amount make a total, with a fee that an order can hold?
-// Kept: 5a: terms are also what a profile or lent memory says before it is judged, any numbers at all, so that their type can't have the caps.
+// Kept: 5a: terms are also what the C interface lends, in a profile or in memory, before it is judged: any numbers, so that their type can't have the caps.
 #[tactic(auto, using(text::proofs::Branches::branches), unfolding(crate::specs::Total::makes, crate::specs::Fee::charged_by))]
 fn does_make(terms: Terms, total: u64, grosze: u64) -> bool
     requires { TermsFit terms }

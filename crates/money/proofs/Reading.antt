@@ -15,8 +15,8 @@ use Rattle.std.specs.Option.{unwrap_or}
 use Rattle.text.specs.Number.{number}
 use Rattle.text.proofs.Branches.{cond_either}
 use Rattle.text.proofs.Digits.{number_bound}
-use Rattle.money.specs.Money.{amount, order_cap, sum_cap, grosze_of}
-use Rattle.money.specs.Text.{together, no_leading_zero, text_of, order_text, sum_text}
+use Rattle.money.specs.Money.{amount, order_cap, grosze_of}
+use Rattle.money.specs.Text.{together, no_leading_zero, text_of, order_text}
 use Rattle.money.specs.declared.Amount.{Amount}
 
 abbrev is_shaped : List ℕ → Bool
@@ -90,9 +90,6 @@ unfolding grosze_of
 amount_or_none (Some amount) = refl
 amount_or_none None = refl
 
--- "An order's amount is 1 to 999,999,999", and a sum "reads at most 9,999,999,999,999".
+-- "An order's amount is 1 to 999,999,999".
 pub order_text_bound : (s : List ℕ) → grosze_of (order_text s) ≤ order_cap
 order_text_bound s = grosze_bound order_cap (order_text s) (text_bound 7 s)
-
-pub sum_text_bound : (s : List ℕ) → grosze_of (sum_text s) ≤ sum_cap
-sum_text_bound s = grosze_bound sum_cap (sum_text s) (text_bound 11 s)

@@ -1,6 +1,6 @@
 -- The table of a text's cuts as it is filled, byte by byte, and padded.
 -- Assumes nothing.
-use mathlib.Core.Path.{◌≡◌, refl, sym, ◌∙◌, ap}
+use mathlib.Core.Path.{◌≡◌, sym, ◌∙◌, ap}
 use mathlib.Core.Bool.{Bool, true, false, cond}
 use mathlib.Core.List.{List, [], ◌∷◌, ◌++◌, append-nil}
 use Prim.Native.Nat.{ℕ, zero, suc, min, ◌+◌, ◌-◌, ◌<◌, ◌≤◌}
@@ -12,7 +12,7 @@ use lib.Dec.{eqb}
 use mir.Val.{bool_byte}
 use lib.ListN.{length, get_or, take, drop, set, replicate, get_or-append, length-set, length-take, drop_of_length-le}
 use lib.Seq.{take_all, take_at, take-append-le, take-append-add, take-suc-set, take-set-le, length-take-le, append_snoc}
-use Rattle.std.proofs.lemmas.List.{get_or-take}
+use Rattle.std.proofs.lemmas.List.{get_or-take, take-replicate}
 use Rattle.text.specs.Fields.{cuts_from, cut_table, cut_count}
 use Rattle.text.proofs.Places.{from_here}
 
@@ -65,11 +65,6 @@ module _ (separator : ℕ) (s table : List ℕ) (i n : ℕ) (noted : Noted separ
       let same : take n table ≡ take (length table) all = sym (take_all (length table) (take n table) (omega (arith, held, noted.fits))) ∙ ended in
       (sym held ∙ ap length same ∙ length-take (length table) all, same)
 
-take_replicate : (k m : ℕ) → k ≤ m → take {A = ℕ} k (replicate m 0) ≡ replicate k 0
-take_replicate zero m h = refl
-take_replicate (suc k) zero h = absurd (omega arith)
-take_replicate (suc k) (suc m) h = ap {B = List ℕ} (λ (l : List ℕ). 0 ∷ l) (take_replicate k m (omega arith))
-
 -- a list cut or filled up with zeros to n
 pub padded : (n : ℕ) (l : List ℕ) → take n l ++ replicate (n - min n (length l)) 0 ≡ take n (l ++ replicate n 0)
 padded n l = go (dec_le n (length l))
@@ -81,7 +76,7 @@ padded n l = go (dec_le n (length l))
     go (no h) =
         let m : min n (length l) ≡ length l = omega arith in
         let s : n ≡ length l + (n - length l) = omega arith in
-        rw (m, take_all n l (omega arith), ← take_replicate (n - length l) n (omega arith))
+        rw (m, take_all n l (omega arith), ← take-replicate {X = ℕ} (n - length l) n 0 (omega arith))
         (sym (ap (λ (k : ℕ). take k (l ++ replicate n 0)) s ∙ take-append-add l (replicate n 0) (n - length l)))
 
 -- a cut is a place of the text

@@ -4,6 +4,7 @@
 -- Assumes nothing.
 use mathlib.Core.Path.{◌≡◌, refl, sym, ap, subst, ◌∙◌}
 use mathlib.Core.Logic.{◌⊎◌, inl, inr}
+use Rattle.std.proofs.Math.Bool.{and-true}
 use mathlib.Core.Bool.{Bool, true, false, cond, ◌&&◌}
 use mathlib.Core.List.{List, [], ◌∷◌}
 use Prim.Native.Nat.{ℕ, zero, suc, ◌+◌, ◌-◌, ◌<◌, ◌≤◌}
@@ -28,10 +29,6 @@ use Rattle.text.proofs.Branches.{both_yes, second_no}
 use Rattle.text.proofs.Places.{from_here}
 
 -- the end that is dropped: `strip_suffix` looks at the last two bytes together, `without_last_end` at each
-and-yes : (t : Bool) → (t && true) ≡ t
-and-yes true = refl
-and-yes false = refl
-
 last_two : (s : List ℕ) → pointwise eqb (drop (length s - 2) s) (13 ∷ 10 ∷ []) ≡ crlf (get_or s (length s - 2) 0) (get_or s (length s - 2 + 1) 0)
 last_two [] = refl
 last_two (b ∷ []) = second_no (eqb b 13) false refl ∙ sym (second_no (eqb b 13) (eqb 0 10) refl)
@@ -39,7 +36,7 @@ last_two (b ∷ c ∷ s) =
     let t = b ∷ c ∷ s in
     let n = length t - 2 in
     let past : drop (n + 1 + 1) t ≡ [] = drop_of_length-le t (omega arith) in
-    rw (from_here t n (omega arith), from_here t (n + 1) (omega arith), past) (ap (λ u. eqb (get_or t n 0) 13 && u) (and-yes (eqb (get_or t (n + 1) 0) 10)))
+    rw (from_here t n (omega arith), from_here t (n + 1) (omega arith), past) (ap (λ u. eqb (get_or t n 0) 13 && u) (and-true (eqb (get_or t (n + 1) 0) 10)))
 
 pub end_stripped : (s : Bor (List ℕ)) (r : Option (Bor (List ℕ)))
     → MatchOption r (pointwise eqb (drop (length s.now - 2) s.now) (13 ∷ 10 ∷ []) ≡ false)

@@ -1,20 +1,15 @@
 -- Two texts compared byte by byte: `same` from a place on, and what its answer means.
 -- Assumes nothing.
-use mathlib.Core.Path.{◌≡◌, refl, ap}
-use mathlib.Core.Bool.{Bool, true, false, ◌&&◌}
+use mathlib.Core.Path.{◌≡◌, refl, sym}
+use mathlib.Core.Bool.{true, ◌&&◌}
+use Rattle.std.proofs.Math.Bool.{and_assoc}
 use mathlib.Core.List.{List, [], ◌∷◌, ◌++◌}
-use Prim.Native.Nat.{ℕ, suc}
+use Prim.Native.Nat.{ℕ}
 use borrow.Author.Tests.{eq-eqb, eqb-true}
 use lib.Dec.{eqb}
 use lib.ListN.{length, take, drop}
 use Rattle.text.specs.Bytes.{same}
-use Rattle.text.proofs.Branches.{and_left, and_right, second_no}
-
-pub same_length : (a b : List ℕ) → (length a ≡ length b → ⊥) → same a b ≡ false
-same_length [] [] h = absurd (h refl)
-same_length [] (y ∷ b) h = refl
-same_length (x ∷ a) [] h = refl
-same_length (x ∷ a) (y ∷ b) h = second_no (eqb x y) (same a b) (same_length a b (λ e. h (ap suc e)))
+use Rattle.text.proofs.Branches.{and_left, and_right}
 
 -- `same` says yes just where the texts are equal
 pub same_equal : (a b : List ℕ) → same a b ≡ true → a ≡ b
@@ -30,13 +25,9 @@ pub same_self : (a : List ℕ) → same a a ≡ true
 same_self [] = refl
 same_self (x ∷ a) = rw (eq-eqb x x refl) (same_self a)
 
-and_assoc : (t u v : Bool) → (t && (u && v)) ≡ ((t && u) && v)
-and_assoc true u v = refl
-and_assoc false u v = refl
-
 -- a text is two texts one after the other where its first bytes are the one and the rest is the other
 pub same_joined : (s a b : List ℕ) → same s (a ++ b) ≡ (same (take (length a) s) a && same (drop (length a) s) b)
 same_joined s [] b = refl
 same_joined [] (y ∷ a) b = refl
 same_joined (x ∷ s) (y ∷ a) b =
-    rw (same_joined s a b) (and_assoc (eqb x y) (same (take (length a) s) a) (same (drop (length a) s) b))
+    rw (same_joined s a b) (sym (and_assoc (eqb x y) (same (take (length a) s) a) (same (drop (length a) s) b)))

@@ -5,7 +5,8 @@ ghost use Rattle.text.specs.Fields.{fields, cuts, cut_table, cut_count, field_by
 use crate::bytes::slice;
 
 // A text with the places of its separators, as many as there is room for, and zeros behind them.
-// Kept: 6a: the place behind the last is written first and counted then, so that no byte costs a branch; a table that grows by pushes has one at each.
+// Kept: 6a: tried, and slower: by pushes into a vector of fixed room, with a branch at each byte, a line of 114 bytes took 245 nanoseconds in plain Rust. In
+// a table of which the place behind the last is written, and counted where it is a separator, it took 129.
 #[derive(Drop)]
 pub struct Fields<'a, const SEPARATOR: u8, const ROOM: usize> {
     text: &'a [u8],
