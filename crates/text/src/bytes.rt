@@ -13,7 +13,7 @@ pub fn are_letters_or_digits(s: &[u8]) -> bool
 }
 
 // The byte at a place, 0 past the end.
-// Kept: 1f: the definitions read a text so (`get_or .. 0`), as a character's octets do of RFC 3629: 0 is no tail, so that nothing is cut off.
+// Kept: 1f: the definitions read a byte so (`get_or .. 0`): 0 is none of those that callers look for, and an Option would be asked twice by each.
 pub fn byte_at(s: &[u8], i: usize) -> u8
     ensures { result ≡ get_or s.now i 0 }
 {
