@@ -3,6 +3,7 @@
 use mathlib.Core.Path.{◌≡◌, sym, ap, ◌∙◌}
 use mathlib.Core.Bool.{Bool, true, false}
 use mathlib.Core.List.{List}
+use Rattle.std.specs.Prelude.{Some, None}
 use Prim.Native.Nat.{ℕ, zero, suc, ◌+◌, ◌-◌, ◌≤◌, ◌<◌}
 use native.Mathlib.Numerals.{add-one}
 use native.Mathlib.Omega.{arith}
@@ -12,10 +13,10 @@ use Rattle.model.specs.Sound.{shipment_sound, shipments_sound}
 use Rattle.model.proofs.SoundParts.{halves}
 use Rattle.memory.specs.Layout.{head_bytes}
 use Rattle.memory.specs.Heads.{order_count_in}
+use Rattle.memory.specs.declared.place.Place.{Place}
 use Rattle.memory.specs.Read.{orders_at, shipment_at, shipments_from}
 use Rattle.sound.proofs.ReadLaws.{rows_next}
-use Rattle.acts.specs.declared.place.Place.TheVariants.{Unsound, Unknown, At}
-use Rattle.acts.specs.Inner.Place.{place_from}
+use Rattle.acts.specs.Inner.Place.{place_at, place_from}
 
 -- Head i and row k are found among the n heads from the j-th on, whose rows begin at the s-th.
 pub data Found (is : List ℕ → Bool) (m : List ℕ) (i k : ℕ) : ℕ → ℕ → ℕ → Type 0 where
@@ -23,25 +24,18 @@ pub data Found (is : List ℕ → Bool) (m : List ℕ) (i k : ℕ) : ℕ → ℕ
   further : {j s n : ℕ} → is (head_bytes m j) ≡ false → Found is m i k (suc j) (s + orders_at m j) n → Found is m i k j s (suc n)
 
 module _ (is : List ℕ → Bool) (m : List ℕ) where
-  pub found : (i k j s n : ℕ) → place_from is m j s n ≡ At i k → Found is m i k j s n
+  pub found : (i k j s n : ℕ) → place_from is m j s n ≡ Some (place_at i k) → Found is m i k j s n
   unfolding place_from
   found i k j s zero e = let never : ◌≡◌ {A = ℕ} 0 1 = cc in absurd (omega arith)
   found i k j s (suc n) e =
       either_way (is (head_bytes m j))
       (λ fits.
       let same = rw fits at e in
-      let head : j ≡ i = cc in
-      let row : s ≡ k = cc in
+      let place : place_at j s ≡ place_at i k = cc in
+      let head : j ≡ i = ap (λ (place : Place). place.head) place in
+      let row : s ≡ k = ap (λ (place : Place). place.row) place in
       rw (head, row) (here (rw head at fits)))
       (λ other. further other (found i k (suc j) (s + orders_at m j) n (rw other at e)))
-
-  pub never_unsound : (j s n : ℕ) → place_from is m j s n ≡ Unsound → ⊥
-  unfolding place_from
-  never_unsound j s zero e = let never : ◌≡◌ {A = ℕ} 0 1 = cc in omega arith
-  never_unsound j s (suc n) e =
-      either_way (is (head_bytes m j))
-      (λ fits. let same = rw fits at e in let never : ◌≡◌ {A = ℕ} 0 1 = cc in omega arith)
-      (λ other. never_unsound (suc j) (s + orders_at m j) n (rw other at e))
 
 -- as code looks: head after head
 module _ (is : List ℕ → Bool) (m : List ℕ) {head : List ℕ} {t : Bool} (i k n : ℕ) (is_head : head ≡ head_bytes m i) (told : t ≡ is head) (more : i < n) where
@@ -51,7 +45,7 @@ module _ (is : List ℕ → Bool) (m : List ℕ) {head : List ℕ} {t : Bool} (i
   left : n - i ≡ suc (n - (i + 1))
   left = omega arith
 
-  pub found_here : t ≡ true → place_from is m i k (n - i) ≡ At i k
+  pub found_here : t ≡ true → place_from is m i k (n - i) ≡ Some (place_at i k)
   unfolding place_from
   found_here fits = rw left (rw (test_is ∙ fits))
 
@@ -61,7 +55,7 @@ module _ (is : List ℕ → Bool) (m : List ℕ) {head : List ℕ} {t : Bool} (i
       let count : rows ≡ orders_at m i = orders ∙ ap order_count_in is_head in
       rw left (rw (test_is ∙ other, add-one, count))
 
-pub none_left : (is : List ℕ → Bool) (m : List ℕ) (i k n : ℕ) → n ≤ i → place_from is m i k (n - i) ≡ Unknown
+pub none_left : (is : List ℕ → Bool) (m : List ℕ) (i k n : ℕ) → n ≤ i → place_from is m i k (n - i) ≡ None
 unfolding place_from
 none_left is m i k n h = let none : n - i ≡ 0 = omega arith in rw none
 

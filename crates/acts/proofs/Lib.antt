@@ -1,6 +1,7 @@
 pub mod RowLaws
 pub mod RowWalks
 pub mod RowsInTurn
+pub mod PassedOn
 pub mod Finding
 pub mod PlaceInBook
 pub mod FoundInBook
@@ -15,3 +16,4 @@ pub mod Orders
 pub mod Returns
 pub mod SurplusActs
 pub mod RowsTaken
+pub mod SumsReturned

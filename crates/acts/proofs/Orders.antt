@@ -29,9 +29,9 @@ use Rattle.memory.proofs.Frames.{row_among}
 use Rattle.memory.proofs.StateLaws.{state_is_read_back}
 use Rattle.memory.proofs.RowLaws.{code_stored}
 use Rattle.sound.proofs.ReadLaws.{rows_many}
-use Rattle.acts.specs.Inner.Handled.{handling_of}
+use Rattle.acts.specs.Inner.Handled.{handled_as}
 use Rattle.acts.specs.Inner.Place.{ActAt}
-use Rattle.acts.specs.declared.order.Handling.TheVariants.{Handled}
+use Rattle.acts.specs.declared.order.Handled.{Handled}
 use Rattle.acts.proofs.RowLaws.{row_at, rows_set}
 use Rattle.memory.proofs.HeadFields.{orders_are, paired_is}
 use Rattle.acts.proofs.ShipmentChanged.{refused_at, rows_changed}
@@ -42,13 +42,16 @@ becomes_in_range Pay = refl
 becomes_in_range MarkUndelivered = refl
 becomes_in_range Withdraw = refl
 
-handled_taken : (deed : Deed) (fee : Fee) (amount : Amount) → changes_nothing (handling_of deed (Handled fee amount)) ≡ false
-handled_taken Post fee amount = refl
-handled_taken Pay fee amount = refl
-handled_taken MarkUndelivered fee amount = refl
-handled_taken Withdraw fee amount = refl
+handled_taken : (deed : Deed) (handled : Handled) → changes_nothing (handled_as deed handled) ≡ false
+handled_taken Post handled = refl
+handled_taken Pay handled = refl
+handled_taken MarkUndelivered handled = refl
+handled_taken Withdraw handled = refl
 
-handled_says : (deed : Deed) (row : Row) → says deed row ≡ handling_of deed (Handled row.fee row.amount)
+abbrev handled_in : Row → Handled
+handled_in row = record { fee = row.fee; amount = row.amount }
+
+handled_says : (deed : Deed) (row : Row) → says deed row ≡ handled_as deed (handled_in row)
 handled_says Post row = refl
 handled_says Pay row = refl
 handled_says MarkUndelivered row = refl
@@ -108,14 +111,14 @@ module _ (m : List ℕ) (i k : ℕ) (deed : Deed) (number : ℕ) {head : List �
 
           pub handled_at : (sits : Sits m i k) {fee : Fee} {amount : Amount} → fee ≡ (row_of (row_bytes m (k + (number - 1)))).fee
               → amount ≡ (row_of (row_bytes m (k + (number - 1)))).amount → fitting ≡ true
-              → ActAt m i k (on_order deed number) (handling_of deed (Handled fee amount)) (with_code_at m (k + (number - 1)) (code_of (becomes deed)))
+              → ActAt m i k (on_order deed number) (handled_as deed (record { fee = fee; amount = amount })) (with_code_at m (k + (number - 1)) (code_of (becomes deed)))
           unfolding on_order shipment_in
           handled_at sits {fee} {amount} fee_is amount_is fit =
               let at = k + (number - 1) in
               let stored = code_stored m at (code_of (becomes deed)) in
               let there = row_there sits in
               let new = stored.row there sits.enough ∙ ap (λ state. with_state state (row_of (row_bytes m at))) (state_is_read_back (becomes deed) (becomes_in_range deed)) in
-              rows_changed (handled_taken deed fee amount) sits.few
+              rows_changed (handled_taken deed _) sits.few
               (row_among k (orders_at m i) (omega arith) (omega (arith, from_one, to_count)) (stored.only there))
               (rows_set m _ k (orders_at m i) (number - 1) (omega (arith, from_one, to_count)) (λ r from below. (stored.only there).other_rows r (omega (arith, sits.room)))
               ∙ ap (set (rows_from m k (orders_at m i)) (number - 1)) (new ∙ ap (with_state (becomes deed)) (sym order_is)))
@@ -125,5 +128,5 @@ module _ (m : List ℕ) (i k : ℕ) (deed : Deed) (number : ℕ) {head : List �
               ∙ asked_none _ _
               ∙ ap (λ answer. leave answer (with_rows (set s.rows (number - 1) (with_state (becomes deed) (order_at number s))) s))
               (handled_says deed (order_at number s)
-              ∙ ap (λ (order : Row). handling_of deed (Handled order.fee order.amount)) order_is
-              ∙ (λ t. handling_of deed (Handled (sym fee_is t) (sym amount_is t)))))
+              ∙ ap (λ (order : Row). handled_as deed (handled_in order)) order_is
+              ∙ (λ t. handled_as deed (record { fee = sym fee_is t; amount = sym amount_is t }))))

@@ -18,10 +18,10 @@ use Rattle.memory.specs.Heads.{stage_in, go_ahead_in, order_count_in, transfers_
 use Rattle.memory.specs.Read.{rows_from, shipment_at, Sits}
 use Rattle.memory.specs.Inner.Stored.{with_stage_at, with_go_ahead_at}
 use Rattle.acts.specs.Inner.Place.{ActAt}
-use Rattle.memory.proofs.HeadFields.{waiting_is, go_ahead_is, accepted_is}
+use Rattle.memory.proofs.HeadFields.{waiting_is, go_ahead_is, accepted_is, accepted_within}
 use Rattle.acts.proofs.ShipmentChanged.{left_at, refused_at}
 use Rattle.acts.proofs.HeadActs.{stage_changed, go_ahead_changed}
-use Rattle.acts.proofs.Needs.{covered_is, neither, need_is, faulty_is}
+use Rattle.acts.proofs.Needs.{room_at, rows_waiting, covered_is, neither, need_is, faulty_is}
 
 first_chosen : (t : Bool) (a b : Outcome) → t ≡ true → cond t a b ≡ a
 first_chosen t a b h = rw h
@@ -68,14 +68,15 @@ module _ (m : List ℕ) (i k : ℕ) (sits : Sits m i k) {head : List ℕ} (is_he
               ∙ asked_yes 16 _ _ _ (sym faulty_test ∙ faults)
               ∙ asked_no 17 _ _ _ (ap not (sym came_test ∙ again)))
 
-          pub gone_ahead_at : came ≡ false → ActAt m i k gone_ahead Done (with_go_ahead_at m i)
+          pub gone_ahead_at : {m' : List ℕ} → came ≡ false → m' ≡ with_go_ahead_at m i → ActAt m i k gone_ahead Done m'
           unfolding gone_ahead
-          gone_ahead_at first =
-              go_ahead_changed sits refl
+          gone_ahead_at first stored =
+              rw stored
+              (go_ahead_changed sits refl
               (asked_yes 15 _ _ _ (waiting_test ∙ held)
               ∙ asked_yes 16 _ _ _ (sym faulty_test ∙ faults)
               ∙ asked_yes 17 _ _ _ (ap not (sym came_test ∙ first))
-              ∙ asked_none _ _)
+              ∙ asked_none _ _))
 
       -- "No faults, or go-ahead given? 18. Paired when both needs are covered; Short changes nothing."
       module _ {may : Bool} (is_may : may ≡ (go_ahead_in head || not (any_faulty (rows_from m k n)))) where
@@ -119,11 +120,16 @@ module _ (m : List ℕ) (i k : ℕ) (sits : Sits m i k) {head : List ℕ} (is_he
               ∙ second_chosen _ _ _ (covered_test ∙ ap not some)
               ∙ (λ t. leave (Short (sym amount_is t) (sym fee_is t)) s))
 
-          pub paired_at : short ≡ false → ActAt m i k paired IsPaired (with_stage_at m i Paired)
+          pub paired_at : {m' : List ℕ} → short ≡ false → m' ≡ with_stage_at m i Paired → ActAt m i k paired IsPaired m'
           unfolding paired
-          paired_at none =
-              stage_changed sits refl Paired
+          paired_at none stored =
+              rw stored
+              (stage_changed sits refl Paired
               (asked_yes 15 _ _ _ (waiting_test ∙ held)
               ∙ asked_yes 18 _ _ _ (may_test ∙ free)
               ∙ asked_none _ _
-              ∙ first_chosen _ _ _ (covered_test ∙ ap not none))
+              ∙ first_chosen _ _ _ (covered_test ∙ ap not none)))
+
+pub ruleset goes_ahead = (room_at, rows_waiting, no_go_ahead_at, no_faults_at, second_at, gone_ahead_at)
+
+pub ruleset pairs = (room_at, rows_waiting, accepted_within, no_pairing_at, faults_at, short_at, paired_at)

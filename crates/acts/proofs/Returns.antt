@@ -33,8 +33,8 @@ use Rattle.memory.specs.Inner.Returns.{WaitTable}
 use Rattle.memory.proofs.ReturnLaws.{row_returned}
 use Rattle.acts.specs.Inner.Place.{ActAt}
 use Rattle.acts.specs.Inner.Waits.{worth_waiting, fees_wait_in_vain, waits_in_vain, RowCleared, RowsReturned, Cleared}
+use Rattle.acts.specs.declared.answer.Returned.{Returned as Waited}
 use Rattle.acts.specs.declared.route.Taken.{Taken}
-use Rattle.acts.specs.declared.route.Waits.{Waits}
 use Rattle.acts.proofs.RowsInTurn.{none_stored, one_more_stored}
 use Rattle.acts.proofs.RowLaws.{rows_mapped}
 use Rattle.memory.proofs.HeadFields.{orders_are, terms_are, paired_is}
@@ -273,7 +273,7 @@ module _ (m : List ℕ) (i k : ℕ) {head : List ℕ} (is_head : head ≡ head_b
           pub worthless_at : vain ≡ true → ActAt m i k (returned_by route money) (Refused 23) m
           worthless_at h = nothing_to_return (worthless route money s (sym is_vain ∙ h))
 
-          module _ (worth_it : vain ≡ false) (sits : Sits m i k) {m' : List ℕ} {found : Waits} (cleared : Cleared route money i k m m' found) where
+          module _ (worth_it : vain ≡ false) (sits : Sits m i k) {m' : List ℕ} {found : Waited} (cleared : Cleared route money i k m m' found) where
             sum_is : waiting route money s ≡ grosze_in found.sum
             sum_is = sym (grosze_is money _ cleared.sum)
 

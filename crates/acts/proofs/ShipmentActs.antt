@@ -53,6 +53,8 @@ module _ (m : List ℕ) (i k : ℕ) (sits : Sits m i k) {head : List ℕ} (is_he
     unfolding closed
     not_closed_at other = refused_at (asked_no 15 _ _ _ (waiting_test ∙ other))
 
-    pub closed_at : waiting ≡ true → ActAt m i k closed Done (with_stage_at m i Closed)
+    pub closed_at : {m' : List ℕ} → m' ≡ with_stage_at m i Closed → waiting ≡ true → ActAt m i k closed Done m'
     unfolding closed
-    closed_at held = stage_changed sits refl Closed (asked_yes 15 _ _ _ (waiting_test ∙ held) ∙ asked_none _ _)
+    closed_at stored held = rw stored (stage_changed sits refl Closed (asked_yes 15 _ _ _ (waiting_test ∙ held) ∙ asked_none _ _))
+
+pub ruleset closes = (not_closed_at, closed_at)

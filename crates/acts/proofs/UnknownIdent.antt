@@ -1,31 +1,21 @@
 -- An identifier is unknown to the book where no place is found for it.
 -- Assumes nothing.
-use mathlib.Core.Path.{◌≡◌, refl, sym, ap, ◌∙◌}
-use mathlib.Core.Bool.{Bool, true, false}
+use mathlib.Core.Path.{◌≡◌, refl}
+use mathlib.Core.Bool.{not}
 use mathlib.Core.List.{List}
 use Prim.Native.Nat.{ℕ, zero, suc, ◌+◌}
+use Rattle.std.specs.Prelude.{is_some}
 use Rattle.text.proofs.Branches.{either_way}
 use Rattle.epe.specs.declared.ident.Ident.{Ident}
 use Rattle.model.specs.Book.{is_unknown}
 use Rattle.memory.specs.Layout.{head_bytes}
 use Rattle.memory.specs.Heads.{shipment_in}
 use Rattle.memory.specs.Read.{orders_at, shipments_from}
-use Rattle.acts.specs.declared.place.Place.{Place}
-use Rattle.acts.specs.declared.place.Place.TheVariants.{Unsound, Unknown, At}
 use Rattle.acts.specs.Inner.Place.{called_in, place_from}
 
-abbrev pub is_none : Place → Bool
-is_none Unsound = false
-is_none Unknown = true
-is_none (At i k) = false
-
-pub none_unknown : (ident : Ident) (m : List ℕ) (i k n : ℕ) → is_none (place_from (called_in ident) m i k n) ≡ is_unknown ident (shipments_from m i k n)
+pub none_unknown : (ident : Ident) (m : List ℕ) (i k n : ℕ) → is_unknown ident (shipments_from m i k n) ≡ not (is_some (place_from (called_in ident) m i k n))
 unfolding place_from shipments_from shipment_in
 none_unknown ident m i k zero = refl
 none_unknown ident m i k (suc n) =
     let rest = none_unknown ident m (suc i) (k + orders_at m i) n in
     either_way (called_in ident (head_bytes m i)) (λ called. rw called) (λ other. rw other rest)
-
-pub unknown_by_place : (ident : Ident) (m : List ℕ) (n : ℕ) {place place' : Place} → place ≡ place_from (called_in ident) m 0 0 n → place ≡ place'
-    → is_none place' ≡ is_unknown ident (shipments_from m 0 0 n)
-unknown_by_place ident m n looked same = ap is_none (sym same ∙ looked) ∙ none_unknown ident m 0 0 n

@@ -4,7 +4,7 @@
 pub mod answer;
 pub mod order;
 pub mod place;
-pub mod refusals;
+pub mod refusal;
 pub mod route;
 pub mod rows;
 pub mod shipment;

@@ -5,61 +5,51 @@ ghost use Rattle.memory.specs.Layout.{size};
 ghost use Rattle.memory.specs.Read.{sound_in};
 ghost use Rattle.acts.specs.Inner.Place.{called_in, named_in, place_from, place_in};
 
+use crate::refusal::Refusal;
 use epe::ident::Ident;
 use epe::name::Name;
 use memory::head::{head_bytes, orders};
 use memory::name::{is_called, is_named};
+use memory::place::Place;
 use memory::shipments;
 use sound::is_sound;
 
-// The memory is not a sound book, no shipment fits, or the shipment of a head and its first row.
-#[derive(Clone, Copy)]
-pub enum Place {
-    Unsound,
-    Unknown,
-    At(usize, usize),
-}
-
 // The place of the shipment of an identifier.
-pub fn place_called(memory: &[u8], ident: Ident) -> Place
+#[tactic(auto, using(text::proofs::Branches::branches, sound::proofs::ReadLaws::sound_parts), unfolding(crate::specs::Inner::Place::place_in))]
+pub fn place_called(memory: &[u8], ident: Ident) -> Result<Place, Refusal>
     ensures { result ≡ place_in (called_in ident) memory.now }
 {
     if !is_sound(memory) {
-        return Place::Unsound;
+        return Err(Refusal::Unsound);
     }
-    find_called(memory, ident, shipments(memory))
+    find_called(memory, ident, shipments(memory)).ok_or(Refusal::Unknown)
 }
 
 // The place of the shipment of a name, in a sound book: identifiers are all different there, so that it can be no other than that of its identifier.
-pub fn place_named(memory: &[u8], name: Name) -> Place
+#[tactic(auto, using(crate::proofs::PlaceOfName::of_name))]
+pub fn place_named(memory: &[u8], name: Name) -> Result<Place, Refusal>
     requires { sound_in memory.now ≡ true }
     ensures { result ≡ place_in (named_in name) memory.now }
 {
-    match find_called(memory, name.ident, shipments(memory)) {
-        Place::Unsound => Place::Unsound,
-        Place::Unknown => Place::Unknown,
-        Place::At(i, k) => {
-            if is_named(head_bytes(memory, i), name) {
-                Place::At(i, k)
-            } else {
-                Place::Unknown
-            }
-        }
+    let place = find_called(memory, name.ident, shipments(memory)).ok_or(Refusal::Unknown)?;
+    if !is_named(head_bytes(memory, place.head), name) {
+        return Err(Refusal::Unknown);
     }
+    Ok(place)
 }
 
-// The shipment of an identifier, among n.
-pub fn find_called(memory: &[u8], ident: Ident, n: usize) -> Place
+// The place of the shipment of an identifier, among n.
+pub fn find_called(memory: &[u8], ident: Ident, n: usize) -> Option<Place>
     requires { (n ≤ most_shipments) × (size ≤ length memory.now) }
     ensures { result ≡ place_from (called_in ident) memory.now 0 0 n }
 {
-    let mut k = 0;
+    let mut row = 0;
     for i in 0..n {
         let head = head_bytes(memory, i);
         if is_called(head, ident) {
-            return Place::At(i, k);
+            return Some(Place { head: i, row });
         }
-        k += orders(head) as usize;
+        row += orders(head) as usize;
     }
-    Place::Unknown
+    None
 }

@@ -1,8 +1,8 @@
 // A return by its route. OPR, ZPR and ZZR: what waits in a shipment's orders waits no more, and is added up on the way.
-ghost use Rattle.std.specs.Prelude.{◌≡◌, false, true, ◌+◌, ◌*◌, ◌≤◌, ◌<◌, ◌^◌, length};
-ghost use Rattle.money.specs.Money.{WithinSum};
+ghost use Rattle.std.specs.Prelude.{◌≡◌, ◌+◌, ◌*◌, ◌≤◌, ◌<◌, ◌^◌, length, IfOk};
+ghost use Rattle.money.specs.Money.{WithinSum, money_of_sum};
 ghost use Rattle.money.specs.declared.Money.TheVariants.{O};
-ghost use Rattle.model.specs.Shipment.{most_rows, by_money, worth};
+ghost use Rattle.model.specs.Shipment.{most_rows, worth};
 ghost use Rattle.model.specs.Calls.{Return, waiting, is_zpr_with_o, returned_by, acted};
 ghost use Rattle.model.specs.declared.Route.{Route};
 ghost use Rattle.memory.specs.Layout.{size, row_bytes};
@@ -13,21 +13,15 @@ ghost use Rattle.acts.specs.Answers.{returning_of};
 ghost use Rattle.acts.specs.Inner.Place.{ActAt};
 ghost use Rattle.acts.specs.Inner.Waits.{worth_waiting, fees_wait_in_vain, waits_in_vain, RowCleared, Cleared};
 
-use crate::answer::Returning;
-use crate::refusals;
+use crate::answer::Returned;
+use crate::refusal::Refusal;
 use crate::surplus::surplus_at;
 use memory::head::{head_bytes, is_paired, orders, terms};
+use memory::place::Place;
 use memory::row::{amount, code, fee};
 use memory::wait::{store_return, wait_of, wait_table};
 use model::Route;
 use money::{Money, Sum};
-
-// What waits, and in how many orders.
-#[derive(Clone, Copy)]
-pub struct Waits {
-    pub sum: Sum,
-    pub count: u64,
-}
 
 // What is taken out of rows on the way: each order's worth in grosze, and each order, as often as its wait adds to the byte of state.
 #[derive(Clone, Copy)]
@@ -37,73 +31,75 @@ pub struct Taken {
 }
 
 // Returns by a route, from the shipment at a place.
-pub fn return_by_at(memory: &mut [u8], i: usize, k: usize, route: Route, money: Money) -> Returning
-    requires { Sits memory.old i k }
-    ensures { ActAt memory.old i k (acted (Return route money)) (returning_of money result) memory.new }
+#[tactic(auto, unfolding(model::specs::Calls::acted))]
+pub fn return_by_at(
+    memory: &mut [u8],
+    place: Place,
+    route: Route,
+    money: Money,
+) -> Result<Returned, Refusal>
+    requires { Sits memory.old place.head place.row }
+    ensures acts { ActAt memory.old place.head place.row (acted (Return route money)) (returning_of money result) memory.new }
+    ensures of_money { IfOk result (λ returned. money_of_sum returned.sum ≡ money) }
 {
+    // Kept: 7a: document 01 asks one list of questions for ZWR, and another for the rest.
     match route {
-        Route::Zwr => surplus_at(memory, i, k, money),
-        Route::Opr => return_at(memory, i, k, Route::Opr, money),
-        Route::Zpr => return_at(memory, i, k, Route::Zpr, money),
-        Route::Zzr => return_at(memory, i, k, Route::Zzr, money),
+        Route::Zwr => surplus_at(memory, place, money),
+        Route::Opr | Route::Zpr | Route::Zzr => return_at(memory, place, route, money),
     }
 }
 
 // Returns what waits of a money on a route, in the shipment at a place.
-fn return_at(memory: &mut [u8], i: usize, k: usize, route: Route, money: Money) -> Returning
-    requires { Sits memory.old i k }
-    ensures { ActAt memory.old i k (returned_by route money) (returning_of money result) memory.new }
+fn return_at(
+    memory: &mut [u8],
+    place: Place,
+    route: Route,
+    money: Money,
+) -> Result<Returned, Refusal>
+    requires { Sits memory.old place.head place.row }
+    ensures acts { ActAt memory.old place.head place.row (returned_by route money) (returning_of money result) memory.new }
+    ensures of_money { IfOk result (λ returned. money_of_sum returned.sum ≡ money) }
 {
-    let head = head_bytes(memory, i);
+    let head = head_bytes(memory, place.head);
     if !is_paired(head) {
-        return Returning::Refused(refusals::NOT_PAIRED);
+        return Err(Refusal::NotPaired);
     }
     if is_zpr_with_o(route, money) {
-        return Returning::Refused(refusals::UNDELIVERED_FEE);
+        return Err(Refusal::UndeliveredFee);
     }
-    if waits_in_vain(memory, i, k, route, money) {
-        return Returning::Refused(refusals::NOTHING_TO_RETURN);
+    if waits_in_vain(memory, place, route, money) {
+        return Err(Refusal::NothingToReturn);
     }
-    let waits = clear(memory, i, k, route, money);
-    let sum = waits.sum;
-    let count = waits.count;
-    if sum.grosze() == 0 {
-        return Returning::Refused(refusals::NOTHING_TO_RETURN);
+    let waits = clear(memory, place, route, money);
+    if waits.sum.grosze() == 0 {
+        return Err(Refusal::NothingToReturn);
     }
-    Returning::of(sum, count)
+    Ok(waits)
 }
 
 // Is it a return of fees of undelivered orders?
 fn is_zpr_with_o(route: Route, money: Money) -> bool
     ensures { result ≡ is_zpr_with_o route money }
 {
-    match route {
-        Route::Zwr => false,
-        Route::Opr => false,
-        Route::Zpr => is_o(money),
-        Route::Zzr => false,
-    }
+    route == Route::Zpr && money == Money::O
 }
 
 // Is what waits of a money on a route 0, though orders may wait? Never in K, since no amount is 0.
-fn waits_in_vain(memory: &[u8], i: usize, k: usize, route: Route, money: Money) -> bool
-    requires { Sits memory.now i k }
-    ensures { result ≡ waits_in_vain route money (shipment_at memory.now i k) }
+fn waits_in_vain(memory: &[u8], place: Place, route: Route, money: Money) -> bool
+    requires { Sits memory.now place.head place.row }
+    ensures { result ≡ waits_in_vain route money (shipment_at memory.now place.head place.row) }
 {
-    match money {
-        Money::K => false,
-        Money::O => fees_wait_in_vain(memory, i, k, route),
-    }
+    money == Money::O && fees_wait_in_vain(memory, place, route)
 }
 
 // Is it so in O? No fee is below the flat part, so that what waits is added up beforehand only where that is 0.
-fn fees_wait_in_vain(memory: &[u8], i: usize, k: usize, route: Route) -> bool
-    requires { Sits memory.now i k }
-    ensures { result ≡ fees_wait_in_vain route (shipment_at memory.now i k) }
+fn fees_wait_in_vain(memory: &[u8], place: Place, route: Route) -> bool
+    requires { Sits memory.now place.head place.row }
+    ensures { result ≡ fees_wait_in_vain route (shipment_at memory.now place.head place.row) }
 {
-    let head = head_bytes(memory, i);
+    let head = head_bytes(memory, place.head);
     let terms = terms(head);
-    terms.flat.0 == 0 && fees_waiting(memory, k, orders(head) as usize, route) == 0
+    terms.flat.0 == 0 && fees_waiting(memory, place.row, orders(head) as usize, route) == 0
 }
 
 // The fees that wait on a route in the n rows from the k-th on, each as often as its wait adds to the byte of state.
@@ -113,6 +109,7 @@ fn fees_waiting(memory: &[u8], k: usize, n: usize, route: Route) -> u64
 {
     let table = wait_table(route, Money::O);
     let mut sum = 0;
+    // Kept: 3c: a row lies in columns, so there is no slice of rows to walk.
     for past in 0..n {
         let code = code(memory, k + past);
         sum += fee(memory, k + past).0 * table[code as usize] as u64;
@@ -122,31 +119,22 @@ fn fees_waiting(memory: &[u8], k: usize, n: usize, route: Route) -> u64
 
 // Ends every wait of a money on a route in the shipment at a place, and answers what waited.
 // A row asks no question: it counts a wait by what that adds to the byte of state, and the sums are divided by it at the end.
-fn clear(memory: &mut [u8], i: usize, k: usize, route: Route, money: Money) -> Waits
-    requires { Sits memory.old i k × WithinSum (waiting route money (shipment_at memory.old i k)) }
-    ensures { Cleared route money i k memory.old memory.new result }
+fn clear(memory: &mut [u8], place: Place, route: Route, money: Money) -> Returned
+    requires { Sits memory.old place.head place.row × WithinSum (waiting route money (shipment_at memory.old place.head place.row)) }
+    ensures { Cleared route money place.head place.row memory.old memory.new result }
 {
-    let head = head_bytes(memory, i);
+    let head = head_bytes(memory, place.head);
     let n = orders(head) as usize;
     let table = wait_table(route, money);
     let mut taken = Taken { worth: 0, count: 0 };
+    // Kept: 3c: a row lies in columns, so there is no slice of rows to walk.
     for done in 0..n {
-        taken = clear_row(memory, k + done, taken, money, &table);
+        taken = clear_row(memory, place.row + done, taken, money, &table);
     }
     let wait = wait_of(money) as u64;
     let sum = Sum::of(money, taken.worth / wait);
     let count = taken.count / wait;
-    Waits { sum, count }
-}
-
-// Is it the money of fees?
-fn is_o(money: Money) -> bool
-    ensures { result ≡ by_money money false true }
-{
-    match money {
-        Money::K => false,
-        Money::O => true,
-    }
+    Returned { sum, count }
 }
 
 // Takes out of row k the wait that a table of waits of a money says of it. What it took is counted, and as often the order's worth is added.
@@ -166,6 +154,7 @@ fn worth_of(memory: &[u8], k: usize, money: Money) -> u64
     requires { (k < most_rows) × (size ≤ length memory.now) }
     ensures { (result ≡ worth money (row_of (row_bytes memory.now k))) × (result < 2 ^ 32) }
 {
+    // Kept: 7a: amounts and fees are two columns of two types, and here one is chosen by the money.
     match money {
         Money::K => amount(memory, k).0,
         Money::O => fee(memory, k).0,

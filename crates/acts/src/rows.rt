@@ -16,6 +16,7 @@ pub fn rows_of(memory: &[u8], n: usize) -> usize
     ensures at_most { result ≤ n * 65_536 }
 {
     let mut k = 0;
+    // Kept: 3c: where heads lie is written in crate memory alone, so there is no slice of heads to walk.
     for i in 0..n {
         k += orders(head_bytes(memory, i)) as usize;
     }
@@ -24,11 +25,13 @@ pub fn rows_of(memory: &[u8], n: usize) -> usize
 
 // Is any of the n rows from the k-th on Faulty? The shipment is Waiting, so that all others are Open, and Open has no bit in its byte. No row is asked a
 // question, so that many are taken at a time.
+// Kept: 2c: it joins the bytes of state themselves, and soundness the class of each: one function for both is no plainer, with a closure for the byte.
 pub fn has_faulty_in(memory: &[u8], k: usize, n: usize) -> bool
     requires { (k + n ≤ most_rows) × (size ≤ length memory.now) × SoundInWaiting (rows_from memory.now k n) }
     ensures { result ≡ any_faulty (rows_from memory.now k n) }
 {
     let mut bits = 0;
+    // Kept: 3c: where bytes of state lie is written in crate memory alone, so there is no slice of them to walk.
     for i in k..k + n {
         bits |= code(memory, i);
     }

@@ -1,13 +1,14 @@
 -- An intake's questions of the book, and what it does where all are answered yes.
 -- Assumes nothing.
 use mathlib.Core.Path.{◌≡◌, refl, sym, ap, subst, ◌∙◌}
-use mathlib.Core.Bool.{Bool, true, false, false≢true}
+use mathlib.Core.Bool.{Bool, true, false, not, false≢true}
 use mathlib.Core.List.{List, [], map}
 use Prim.Native.Nat.{ℕ, ◌+◌, ◌-◌, ◌≤◌, ◌<◌}
 use native.Mathlib.Omega.{arith}
 use borrow.Author.Tests.{leb-true, leb-false, le-leb, lt-leb, le-ltb, lt-ltb}
 use lib.Dec.{leb, ltb}
 use lib.ListN.{length, length-replicate}
+use Rattle.std.specs.Prelude.{Option, is_some}
 use Rattle.text.proofs.Branches.{either_way}
 use Rattle.fee.specs.Fee.{TermsFit}
 use Rattle.fee.specs.declared.Terms.{Terms}
@@ -36,8 +37,11 @@ use Rattle.model.specs.Sound.{sound}
 use Rattle.model.proofs.StaysSound.{stays_sound, opened_in_form}
 use Rattle.model.proofs.StatedKind.{stated_terms_lem}
 use Rattle.memory.specs.Layout.{size}
+use Rattle.memory.specs.declared.place.Place.{Place}
 use Rattle.memory.specs.Read.{shipments_from, shipments_in, book_in, sound_in}
 use Rattle.sound.proofs.ReadLaws.{shipments_many, sound_parts}
+use Rattle.acts.specs.Inner.Place.{called_in, place_from}
+use Rattle.acts.proofs.UnknownIdent.{none_unknown}
 use Rattle.book.specs.Does.{Does}
 use Rattle.book.specs.Inner.Entering.{entered_in, Fits, Opened, Counted, ShipmentEntered, DoesEnter}
 use Rattle.book.proofs.CallDoesStep.{does_no_book, does_step, stays}
@@ -253,19 +257,24 @@ module _ (m : List ℕ) (profile : Profile) (name file : List ℕ) where
       pub name_in_form_lem : name_in_form parts ≡ true
       name_in_form_lem = ap name_in_form name_is ∙ opened_in_form name file passed
 
-      module _ {i : ℕ} (last : i ≡ shipments_in m) {unknown : Bool} (is-unknown : unknown ≡ is_unknown parts.ident (shipments_from m 0 0 i)) where
-        unknown_test : is_unknown (name_of name).ident (book_in m) ≡ unknown
+      module _ {i : ℕ} (last : i ≡ shipments_in m) {looked : Option Place} (is_looked : looked ≡ place_from (called_in parts.ident) m 0 0 i)
+          {known : Bool} (is-known : known ≡ is_some looked) where
+        unknown_test : is_unknown (name_of name).ident (book_in m) ≡ not known
         unfolding book_in
-        unknown_test = (λ t. is_unknown (sym name_is t).ident (shipments_from m 0 0 (sym last t))) ∙ sym is-unknown
+        unknown_test =
+            (λ t. is_unknown (sym name_is t).ident (shipments_from m 0 0 (sym last t)))
+            ∙ none_unknown parts.ident m 0 0 i
+            ∙ ap (λ found. not (is_some found)) (sym is_looked)
+            ∙ ap not (sym is-known)
 
-        pub known_at : unknown ≡ false → Does m call (Refused 101) m
-        known_at known = known_refused held passed (unknown_test ∙ known)
+        pub known_at : known ≡ true → Does m call (Refused 101) m
+        known_at known = known_refused held passed (unknown_test ∙ ap not known)
 
-        pub taken_at : unknown ≡ true → {answer : Answer} {m' : List ℕ}
+        pub taken_at : known ≡ false → {answer : Answer} {m' : List ℕ}
             → DoesEnter (contents_questions profile file) (entered profile parts (orders file)) (length (orders file)) (faulty_count (orders file)) m answer m'
             → Does m call answer m'
         taken_at new enters =
             enters.by_call call
-            (contents_next held passed (unknown_test ∙ new)
+            (contents_next held passed (unknown_test ∙ ap not new)
             ∙ ap (λ (n : Name). entered_in (contents_questions profile file) (entered profile n (orders file)) (length (orders file)) (faulty_count (orders file)) (book_in m))
             (sym name_is))

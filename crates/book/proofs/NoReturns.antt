@@ -3,32 +3,36 @@
 use mathlib.Core.Path.{◌≡◌, sym, ◌∙◌}
 use mathlib.Core.Bool.{Bool, true, false}
 use mathlib.Core.List.{List}
-use Prim.Native.Nat.{ℕ}
+use Rattle.std.specs.Prelude.{Ok, Err}
+use Prim.Native.Nat.{ℕ, ◌≤◌, ◌<◌}
+use lib.ListN.{length}
 use Rattle.epe.specs.declared.ident.Ident.{Ident}
-use Rattle.model.specs.Shipment.{is_paired}
-use Rattle.memory.specs.Layout.{head_bytes}
+use Rattle.model.specs.Shipment.{most_shipments, is_paired}
+use Rattle.memory.specs.Layout.{size, head_bytes}
 use Rattle.memory.specs.Heads.{stage_in}
+use Rattle.memory.specs.declared.place.Place.{Place}
 use Rattle.memory.specs.Read.{shipment_at, read_book}
-use Rattle.acts.specs.declared.place.Place.TheVariants.{Unsound, Unknown, At}
+use Rattle.acts.specs.Refusal.{number_of}
+use Rattle.acts.specs.declared.refusal.Refusal.{Refusal}
 use Rattle.acts.specs.Inner.Place.{called_in, place_in}
-use Rattle.acts.proofs.PlaceInBook.{unsound_place}
-use Rattle.acts.proofs.FoundInBook.{found_none, found_at}
+use Rattle.acts.proofs.PlaceInBook.{sits, no_place}
+use Rattle.acts.proofs.FoundInBook.{none_found, found_at}
 use Rattle.book.specs.NoReturn.{no_return}
 use Rattle.memory.proofs.HeadFields.{paired_is}
 
 module _ (ident : Ident) (m : List ℕ) where
-  pub refused_unsound : place_in (called_in ident) m ≡ Unsound → 10 ≡ no_return ident (read_book m)
-  unfolding read_book
-  refused_unsound e = rw (unsound_place (called_in ident) m e)
+  pub head_there : {place : Place} → Ok place ≡ place_in (called_in ident) m → (place.head < most_shipments) × (size ≤ length m)
+  head_there placed = let there = sits (called_in ident) placed in (there.few, there.enough)
 
-  pub refused_unknown : place_in (called_in ident) m ≡ Unknown → 13 ≡ no_return ident (read_book m)
+  pub refused_unplaced : {refusal : Refusal} → Err refusal ≡ place_in (called_in ident) m → number_of refusal ≡ no_return ident (read_book m)
   unfolding read_book
-  refused_unknown e = let found = found_none ident m e in rw (found.0, found.1)
+  refused_unplaced e =
+      no_place (called_in ident) m e (λ same unsound. rw (same, unsound)) (λ same held none. rw (same, held, none_found ident m none))
 
-  module _ {i k : ℕ} (placed : place_in (called_in ident) m ≡ At i k) {head : List ℕ} (is_head : head ≡ head_bytes m i)
+  module _ {place : Place} (placed : Ok place ≡ place_in (called_in ident) m) {head : List ℕ} (is_head : head ≡ head_bytes m place.head)
       {paired : Bool} (is-paired : paired ≡ is_paired (stage_in head)) where
-    stage_is : is_paired (shipment_at m i k).stage ≡ paired
-    stage_is = sym (is-paired ∙ paired_is m i k is_head)
+    stage_is : is_paired (shipment_at m place.head place.row).stage ≡ paired
+    stage_is = sym (is-paired ∙ paired_is m place.head place.row is_head)
 
     pub refused_paired : paired ≡ true → 22 ≡ no_return ident (read_book m)
     unfolding read_book
@@ -37,3 +41,5 @@ module _ (ident : Ident) (m : List ℕ) where
     pub refused_not_paired : paired ≡ false → 19 ≡ no_return ident (read_book m)
     unfolding read_book
     refused_not_paired h = let found = found_at ident m placed in rw (found.0, found.1, stage_is ∙ h)
+
+pub ruleset refuses = (head_there, refused_unplaced, refused_paired, refused_not_paired)

@@ -15,7 +15,7 @@ use Rattle.memory.specs.Layout.{head_bytes, row_bytes}
 use Rattle.memory.specs.Heads.{flags_in_form}
 use Rattle.memory.specs.Read.{rows_from, orders_at, shipment_at, shipments_from, flags_from}
 use Rattle.sound.proofs.ReadLaws.{rows_next}
-use Rattle.acts.specs.declared.place.Place.TheVariants.{Unknown}
+use Rattle.std.specs.Prelude.{None}
 use Rattle.acts.specs.Inner.Place.{place_from, ActAt}
 use Rattle.acts.proofs.RowLaws.{rows_alike}
 use Rattle.acts.proofs.Finding.{Found, here, further, within}
@@ -54,7 +54,7 @@ module _ {m m' : List ℕ} {i k : ℕ} {does : Shipment → Outcome} {answer : A
       (flags_kept (suc j) n (omega arith) (and_right first rest h))
 
 module _ {is : List ℕ → Bool} {does : Shipment → Outcome} {call : Call} (seeks : Seeks is does call) where
-  pub none_found : (m : List ℕ) (j s n : ℕ) → place_from is m j s n ≡ Unknown
+  pub none_found : (m : List ℕ) (j s n : ℕ) → place_from is m j s n ≡ None
       → on_first seeks.called does (shipments_from m j s n) ≡ stay (Refused 13) (shipments_from m j s n)
   unfolding place_from shipments_from
   none_found m j s zero e = refl

@@ -1,4 +1,6 @@
 -- In the order in which to read them.
+pub mod Refusal
+pub mod Acceptance
 pub mod Does
 pub mod Reply
 pub mod Numbers

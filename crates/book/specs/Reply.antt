@@ -1,5 +1,5 @@
 -- An answer in three numbers, as the exports and a replay tell it.
-use Rattle.std.specs.Prelude.{◌≡◌, List, ℕ}
+use Rattle.std.specs.Prelude.{◌≡◌, List, ℕ, Result, Ok, Err}
 use Rattle.model.specs.Calls.{Call, Answer, Refused, Done, Accepted, IsPaired, Short, FeeEarned, AmountPaid, Returned}
 use Rattle.book.specs.Does.{Does}
 use Rattle.book.specs.declared.reply.Reply.{Reply}
@@ -24,6 +24,11 @@ reply_of (Short amount fee) = short_by amount fee
 reply_of (FeeEarned fee) = done_with fee 0
 reply_of (AmountPaid amount) = done_with amount 0
 reply_of (Returned total count) = done_with total count
+
+-- What a call is told by: where it is not refused what it answers, else one of the numbers of its refusal.
+abbrev pub Tells : {T R : Type 0} → (T → Reply) → (R → ℕ → Type 0) → Result T R → Reply → Type 0
+Tells accepted numbered (Ok answer) reply = reply ≡ accepted answer
+Tells accepted numbered (Err refusal) reply = (number : ℕ) × numbered refusal number × (reply ≡ refused_with number)
 
 -- A call was made in the memory, and what it answered is told.
 pub record Plays (before : List ℕ) (call : Call) (reply : Reply) (after : List ℕ) : Type 0 where

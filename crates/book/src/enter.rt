@@ -11,66 +11,59 @@ ghost use Rattle.contents.specs.Accepted.{EachInRange, EachCharged};
 ghost use Rattle.contents.specs.Kept.{orders_in};
 ghost use Rattle.model.specs.Shipment.{most_shipments, most_rows};
 ghost use Rattle.model.specs.Calls.{Intake};
-ghost use Rattle.model.specs.Book.{is_unknown, entered_row, new_shipment, entered};
+ghost use Rattle.model.specs.Book.{entered_row, new_shipment, entered};
 ghost use Rattle.memory.specs.Layout.{size};
-ghost use Rattle.memory.specs.Read.{shipments_from, shipments_in, sound_in};
-ghost use Rattle.acts.specs.Answers.{acceptance_of};
+ghost use Rattle.memory.specs.Read.{shipments_in, sound_in};
 ghost use Rattle.acts.specs.Inner.Place.{RowsStored};
+ghost use Rattle.book.specs.Acceptance.{acceptance_of};
 ghost use Rattle.book.specs.Does.{Does};
 ghost use Rattle.book.specs.Inner.Entering.{kept_row, Fits, ShipmentEntered, Opened, Counted, DoesEnter};
 
-use crate::refusals;
-use acts::answer::Acceptance;
-use acts::place::{Place, find_called};
+use crate::refusal::IntakeRefusal;
+use acts::place::find_called;
 use acts::rows::rows_of;
 use contents::judge::{Accepted, judge_records};
 use contents::kept::order_in;
 use contents::stated::{Stated, judge_stated};
 use epe::file::open;
-use epe::ident::Ident;
 use epe::name::Name;
 use epe::profile::Profile;
 use fee::Terms;
 use memory::enter::{enter_head, enter_order};
+use memory::place::Place;
 use memory::{MOST_ROWS, MOST_SHIPMENTS, shipments, store_shipments};
 
 // Takes in an order file into a sound book.
-pub fn take_file(memory: &mut [u8], profile: Profile, name: &[u8], file: &[u8]) -> Acceptance
+pub fn take_file(
+    memory: &mut [u8],
+    profile: Profile,
+    name: &[u8],
+    file: &[u8],
+) -> Result<Accepted, IntakeRefusal>
     requires { (first_no (profile_questions profile) ≡ Passed) × (sound_in memory.old ≡ true) }
     ensures { Does memory.old (Intake profile name.now file.now) (acceptance_of result) memory.new }
 {
-    let parts = match open(name, file) {
-        Ok(parts) => parts,
-        Err(refusal) => return Acceptance::Refused(u64::from(refusal)),
-    };
+    let parts = open(name, file)?;
     let i = shipments(memory);
-    if !is_unknown(memory, parts.ident, i) {
-        return Acceptance::Refused(refusals::KNOWN);
+    if find_called(memory, parts.ident, i).is_some() {
+        return Err(IntakeRefusal::Known);
     }
     take_in(memory, i, profile, parts, file)
 }
 
-// Is an identifier of none of n shipments?
-fn is_unknown(memory: &[u8], ident: Ident, n: usize) -> bool
-    requires { (n ≤ most_shipments) × (size ≤ length memory.now) }
-    ensures { result ≡ is_unknown ident (shipments_from memory.now 0 0 n) }
-{
-    match find_called(memory, ident, n) {
-        Place::Unsound => false,
-        Place::Unknown => true,
-        Place::At(_, _) => false,
-    }
-}
-
 // Judges the contents of a file, and enters it behind the i shipments that there are.
-fn take_in(memory: &mut [u8], i: usize, profile: Profile, name: Name, file: &[u8]) -> Acceptance
+fn take_in(
+    memory: &mut [u8],
+    i: usize,
+    profile: Profile,
+    name: Name,
+    file: &[u8],
+) -> Result<Accepted, IntakeRefusal>
     requires { (first_no (profile_questions profile) ≡ Passed) × (sound_in memory.old ≡ true) × (i ≡ shipments_in memory.old) × (name_in_form name ≡ true) × (stated_terms profile (header file.now) ≡ terms_for profile name.kind) }
     ensures { DoesEnter (contents_questions profile file.now) (entered profile name (orders file.now)) (length (orders file.now)) (faulty_count (orders file.now)) memory.old (acceptance_of result) memory.new }
 {
-    match judge_stated(profile, file) {
-        Ok(stated) => take_records(memory, i, profile, name, stated, file),
-        Err(refusal) => Acceptance::Refused(u64::from(refusal)),
-    }
+    let stated = judge_stated(profile, file)?;
+    take_records(memory, i, profile, name, stated, file)
 }
 
 // Judges the records of a file whose header has passed, and enters it behind the i shipments that there are.
@@ -81,16 +74,13 @@ fn take_records(
     name: Name,
     stated: Stated,
     file: &[u8],
-) -> Acceptance
+) -> Result<Accepted, IntakeRefusal>
     requires { (first_no (profile_questions profile) ≡ Passed) × (sound_in memory.old ≡ true) × (i ≡ shipments_in memory.old) × (name_in_form name ≡ true) × (stated_terms profile (header file.now) ≡ terms_for profile name.kind) × (stated_verdict profile file.now ≡ Passed) × (stated ≡ stated_of profile file.now) }
     ensures { DoesEnter (contents_questions profile file.now) (entered profile name (orders file.now)) (length (orders file.now)) (faulty_count (orders file.now)) memory.old (acceptance_of result) memory.new }
 {
-    let terms = stated.terms;
     let mut kept = [0u64; MOST_ROWS];
-    match judge_records(profile.fields, stated, file, &mut kept) {
-        Ok(accepted) => enter_behind(memory, i, name, terms, accepted, &kept),
-        Err(refusal) => Acceptance::Refused(u64::from(refusal)),
-    }
+    let accepted = judge_records(profile.fields, stated, file, &mut kept)?;
+    enter_behind(memory, i, name, stated.terms, accepted, &kept)
 }
 
 // Enters a shipment of the first n orders that a table keeps behind the i that there are, if there is room.
@@ -101,30 +91,30 @@ fn enter_behind(
     terms: Terms,
     accepted: Accepted,
     kept: &[u64],
-) -> Acceptance
+) -> Result<Accepted, IntakeRefusal>
     requires { Opened memory.old i name terms × Counted terms accepted.orders kept.now }
     ensures { DoesEnter [] (new_shipment name terms (map (entered_row terms) (orders_in kept.now 0 accepted.orders))) accepted.orders accepted.faulty memory.old (acceptance_of result) memory.new }
 {
     let n = accepted.orders;
     if MOST_SHIPMENTS <= i {
-        return Acceptance::Refused(refusals::SHIPMENTS);
+        return Err(IntakeRefusal::Shipments);
     }
     let k = rows_of(memory, i);
     if ((MOST_ROWS - k) as u64) < n {
-        return Acceptance::Refused(refusals::ROWS);
+        return Err(IntakeRefusal::Rows);
     }
-    enter(memory, i, k, name, terms, n, kept);
-    Acceptance::Accepted(n, accepted.faulty)
+    enter(memory, Place { head: i, row: k }, name, terms, n, kept);
+    Ok(accepted)
 }
 
-// Enters a shipment of the first n orders that a table keeps as the i-th, its rows from the k-th on.
-fn enter(memory: &mut [u8], i: usize, k: usize, name: Name, terms: Terms, n: u64, kept: &[u64])
-    requires { Fits memory.old i k name terms n kept.now }
+// Enters a shipment of the first n orders that a table keeps at a place.
+fn enter(memory: &mut [u8], place: Place, name: Name, terms: Terms, n: u64, kept: &[u64])
+    requires { Fits memory.old place.head place.row name terms n kept.now }
     ensures { ShipmentEntered (new_shipment name terms (map (entered_row terms) (orders_in kept.now 0 n))) memory.old memory.new }
 {
-    enter_orders(memory, k, n as usize, terms, kept);
-    enter_head(memory, i, name, terms, n);
-    store_shipments(memory, i + 1);
+    enter_orders(memory, place.row, n as usize, terms, kept);
+    enter_head(memory, place.head, name, terms, n);
+    store_shipments(memory, place.head + 1);
 }
 
 // Enters the first n orders that a table keeps, in the rows from the k-th on.

@@ -6,6 +6,8 @@ use model::Route;
 use money::Money;
 
 // Are the numbers those of a route and of a money?
+// Kept: 1d, 4c: the C interface and a journal have routes and moneys as numbers, and a journal's definition reads each number as one (`act_in`).
+#[tactic(auto, using(text::proofs::Branches::branches), unfolding(crate::specs::Numbers::are_known))]
 pub fn are_known(route: u64, money: u64) -> bool
     ensures { result ≡ are_known route money }
 {
@@ -13,6 +15,8 @@ pub fn are_known(route: u64, money: u64) -> bool
 }
 
 // The route of a number.
+// Kept: 1d, 4c: the C interface and a journal have routes and moneys as numbers, and a journal's definition reads each number as one (`act_in`).
+#[tactic(auto, using(text::proofs::Branches::branches), unfolding(crate::specs::Numbers::route_of))]
 pub fn route_of(n: u64) -> Route
     ensures { result ≡ route_of n }
 {
@@ -25,6 +29,8 @@ pub fn route_of(n: u64) -> Route
 }
 
 // The money of a number.
+// Kept: 1d, 4c: the C interface and a journal have routes and moneys as numbers, and a journal's definition reads each number as one (`act_in`).
+#[tactic(auto, using(text::proofs::Branches::branches), unfolding(crate::specs::Numbers::money_of))]
 pub fn money_of(n: u64) -> Money
     ensures { result ≡ money_of n }
 {

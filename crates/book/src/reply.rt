@@ -1,83 +1,105 @@
 // An answer in three numbers.
 ghost use Rattle.std.specs.Prelude.{◌≡◌};
-ghost use Rattle.money.specs.declared.Money.TheVariants.{K, O};
-ghost use Rattle.acts.specs.Answers.{completion_of, acceptance_of, pairing_of, posting_of, payment_of, returning_of};
-ghost use Rattle.book.specs.Reply.{done_with, short_by, refused_with, reply_of};
+ghost use Rattle.book.specs.Reply.{done_with, short_by, refused_with, Tells};
 
-use acts::answer::{Acceptance, Completion, Pairing, Payment, Posting, Returning};
-use money::Money;
+use acts::answer::{Pairing, Returned};
+use contents::judge::Accepted;
+use money::{Amount, Fee};
 
 // 0 done, 1 short or 2 refused, and what the answer says.
+// Kept: 1d, 6d: across the C interface an answer is these three numbers.
 #[repr(C)]
-#[derive(Clone, Copy)]
+#[derive(Clone, Copy, PartialEq, Eq, Debug)]
 pub struct Reply {
     pub status: u64,
     pub first: u64,
     pub second: u64,
 }
 
-// What a completion says, in three numbers.
-pub fn tell_completion(completion: Completion) -> Reply
-    ensures { result ≡ reply_of (completion_of completion) }
-{
-    match completion {
-        Completion::Done => done(0, 0),
-        Completion::Refused(number) => refused(number),
+// What a call that is not refused answers.
+pub trait Told {
+    ghost use Rattle.book.specs.declared.reply.Reply.{Reply};
+
+    ghost reply: { Self → Reply };
+
+    // What it says, in three numbers.
+    fn told(self) -> Reply
+        ensures { result ≡ reply self };
+}
+
+impl Told for () {
+    ghost reply = { λ nothing. done_with 0 0 };
+
+    fn told(self) -> Reply {
+        done(0, 0)
     }
 }
 
-// What an acceptance says.
-pub fn tell_acceptance(acceptance: Acceptance) -> Reply
-    ensures { result ≡ reply_of (acceptance_of acceptance) }
-{
-    match acceptance {
-        Acceptance::Accepted(orders, faulty) => done(orders, faulty),
-        Acceptance::Refused(number) => refused(number),
+impl Told for Accepted {
+    ghost reply = { λ accepted. done_with accepted.orders accepted.faulty };
+
+    fn told(self) -> Reply {
+        done(self.orders, self.faulty)
     }
 }
 
-// What a pairing says.
-pub fn tell_pairing(pairing: Pairing) -> Reply
-    ensures { result ≡ reply_of (pairing_of pairing) }
-{
-    match pairing {
-        Pairing::Paired => done(0, 0),
-        Pairing::Short(amount, fee) => short(amount.0, fee.0),
-        Pairing::Refused(number) => refused(number),
+impl Told for Fee {
+    ghost reply = { λ fee. done_with fee.0 0 };
+
+    fn told(self) -> Reply {
+        done(self.0, 0)
     }
 }
 
-// What a posting says.
-pub fn tell_posting(posting: Posting) -> Reply
-    ensures { result ≡ reply_of (posting_of posting) }
-{
-    match posting {
-        Posting::Earned(fee) => done(fee.0, 0),
-        Posting::Refused(number) => refused(number),
+impl Told for Amount {
+    ghost reply = { λ amount. done_with amount.0 0 };
+
+    fn told(self) -> Reply {
+        done(self.0, 0)
     }
 }
 
-// What a payment says.
-pub fn tell_payment(payment: Payment) -> Reply
-    ensures { result ≡ reply_of (payment_of payment) }
-{
-    match payment {
-        Payment::Paid(amount) => done(amount.0, 0),
-        Payment::Refused(number) => refused(number),
+impl Told for Returned {
+    ghost use Rattle.money.specs.Money.{grosze_in};
+
+    ghost reply = { λ returned. done_with (grosze_in returned.sum) returned.count };
+
+    fn told(self) -> Reply {
+        done(self.sum.grosze(), self.count)
     }
 }
 
-// What a return of either money says.
-pub fn tell_returning(money: Money, returning: Returning) -> Reply
-    ensures { result ≡ reply_of (returning_of money returning) }
+impl Told for Pairing {
+    ghost use Rattle.acts.specs.Answers.{pairing_of};
+    ghost use Rattle.book.specs.Reply.{reply_of};
+
+    ghost reply = { λ pairing. reply_of (pairing_of pairing) };
+
+    // Kept: 1e: document 01 has a pairing in these three forms, and each says something else.
+    fn told(self) -> Reply {
+        match self {
+            Pairing::Paired => done(0, 0),
+            Pairing::Short(amount, fee) => short(amount.0, fee.0),
+            Pairing::Refused(number) => refused(number),
+        }
+    }
+}
+
+// What a call says: what it answers, or the number of its refusal.
+pub fn tell<T: Told, R>(answer: Result<T, R>) -> Reply
+where
+    u64: From<R>,
+    ensures { Tells T.reply ⟦<u64 as From<R>>⟧.from_gives answer result }
 {
-    match money {
-        Money::K => tell_amounts(returning),
-        Money::O => tell_fees(returning),
+    // Kept: 7a: `map_or_else` with two closures is no plainer.
+    match answer {
+        Ok(accepted) => accepted.told(),
+        Err(refusal) => refused(u64::from(refusal)),
     }
 }
 
 // Done, and what the answer says.
+// Kept: 2c: an answer has one of three statuses, and each of these three functions makes one.
 pub fn done(first: u64, second: u64) -> Reply
     ensures { result ≡ done_with first second }
 {
@@ -89,6 +111,7 @@ pub fn done(first: u64, second: u64) -> Reply
 }
 
 // Refused, with the number of the question.
+// Kept: 1d, 2c: across the C interface a refusal is the number of its question.
 pub fn refused(number: u64) -> Reply
     ensures { result ≡ refused_with number }
 {
@@ -100,6 +123,7 @@ pub fn refused(number: u64) -> Reply
 }
 
 // Short by an amount and a fee.
+// Kept: 2c: an answer has one of three statuses, and each of these three functions makes one.
 fn short(amount: u64, fee: u64) -> Reply
     ensures { result ≡ short_by amount fee }
 {
@@ -107,27 +131,5 @@ fn short(amount: u64, fee: u64) -> Reply
         status: 1,
         first: amount,
         second: fee,
-    }
-}
-
-// What a return of amounts says.
-fn tell_amounts(returning: Returning) -> Reply
-    ensures { result ≡ reply_of (returning_of K returning) }
-{
-    match returning {
-        Returning::Amounts(amount, count) => done(amount.0, count),
-        Returning::Fees(_, _) => done(0, 0),
-        Returning::Refused(number) => refused(number),
-    }
-}
-
-// What a return of fees says.
-fn tell_fees(returning: Returning) -> Reply
-    ensures { result ≡ reply_of (returning_of O returning) }
-{
-    match returning {
-        Returning::Amounts(_, _) => done(0, 0),
-        Returning::Fees(fee, count) => done(fee.0, count),
-        Returning::Refused(number) => refused(number),
     }
 }

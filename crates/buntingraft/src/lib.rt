@@ -23,7 +23,7 @@ ghost use Rattle.buntingraft.specs.Exports.{bits_of, said_in, reply_to_around};
 
 use bits::{bits_of, said_in};
 use book::numbers::{are_known, money_of, route_of};
-use book::reply::{Reply, done, refused, tell_completion};
+use book::reply::{Reply, done, refused, tell};
 use contents::around::judge_around;
 use contents::extra::judge_extra;
 use contents::faults::{Fault, number_of};
@@ -54,7 +54,7 @@ pub extern "C" fn buntingraft_book_bytes() -> u64
 pub extern "C" fn buntingraft_make_empty(book: &mut [u8]) -> Reply
     ensures { Makes book.old result book.new }
 {
-    tell_completion(book::make_empty(book))
+    tell(book::make_empty(book))
 }
 
 // Takes in an order file.
@@ -140,7 +140,8 @@ pub extern "C" fn buntingraft_return(book: &mut [u8], id: &[u8], route: u64, mon
     ensures { Returns book.old (ident_of id.now) route money result book.new }
 {
     if !are_known(route, money) {
-        return refused(book::refuse_return(book, ident_of(id)));
+        let refusal = book::refuse_return(book, ident_of(id));
+        return refused(u64::from(refusal));
     }
     book::told::return_money(book, id, route_of(route), money_of(money))
 }

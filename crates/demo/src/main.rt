@@ -4,34 +4,44 @@
 
 ghost use Rattle.std.specs.Prelude.{◌≤◌, length, IfOk};
 
-use acts::answer::{Acceptance, Completion, Pairing, Payment, Posting, Returning};
+use acts::answer::{Pairing, Returned};
+use acts::refusal::Refusal;
+use book::refusal::IntakeRefusal;
 use calendar::date::Date;
+use contents::judge::Accepted;
 use epe::ident::Ident;
 use epe::profile::Profile;
 use fee::Rate;
 use memory::SIZE;
 use model::Route;
-use money::{Fee, Grosze, Money};
+use money::{Amount, Fee, Grosze, Money, Sum};
 use std::fs::File;
 use std::io;
 use std::io::Read;
 
 // The line of a call, for each form that an answer has.
 // Kept: 4f: what a line says of an answer is this program's own; a `Display` of it would need a type around each answer, since those are of acts.
-fn say_completion(rt: &impl Print, call: &str, completion: Completion) -> io::Result<()> {
+fn say_completion(rt: &impl Print, call: &str, completion: Result<(), Refusal>) -> io::Result<()> {
     match completion {
-        Completion::Done => println!(rt; "{call}: done"),
-        Completion::Refused(number) => say_refused(rt, call, number),
+        Ok(()) => println!(rt; "{call}: done"),
+        Err(refusal) => say_refused(rt, call, u64::from(refusal)),
     }
 }
 
 // Kept: 4f: what a line says of an answer is this program's own; a `Display` of it would need a type around each answer, since those are of acts.
-fn say_acceptance(rt: &impl Print, call: &str, acceptance: Acceptance) -> io::Result<()> {
+fn say_acceptance(
+    rt: &impl Print,
+    call: &str,
+    acceptance: Result<Accepted, IntakeRefusal>,
+) -> io::Result<()> {
     match acceptance {
-        Acceptance::Accepted(orders, faulty) => {
-            println!(rt; "{call}: accepted, orders {orders}, faulty {faulty}")
+        Ok(accepted) => {
+            println!(rt;
+                "{call}: accepted, orders {}, faulty {}",
+                accepted.orders, accepted.faulty
+            )
         }
-        Acceptance::Refused(number) => say_refused(rt, call, number),
+        Err(refusal) => say_refused(rt, call, u64::from(refusal)),
     }
 }
 
@@ -47,38 +57,44 @@ fn say_pairing(rt: &impl Print, call: &str, pairing: Pairing) -> io::Result<()> 
 }
 
 // Kept: 4f: what a line says of an answer is this program's own; a `Display` of it would need a type around each answer, since those are of acts.
-fn say_posting(rt: &impl Print, call: &str, posting: Posting) -> io::Result<()> {
+fn say_posting(rt: &impl Print, call: &str, posting: Result<Fee, Refusal>) -> io::Result<()> {
     match posting {
-        Posting::Earned(fee) => println!(rt; "{call}: earned {} grosze", fee.0),
-        Posting::Refused(number) => say_refused(rt, call, number),
+        Ok(fee) => println!(rt; "{call}: earned {} grosze", fee.0),
+        Err(refusal) => say_refused(rt, call, u64::from(refusal)),
     }
 }
 
 // Kept: 4f: what a line says of an answer is this program's own; a `Display` of it would need a type around each answer, since those are of acts.
-fn say_payment(rt: &impl Print, call: &str, payment: Payment) -> io::Result<()> {
+fn say_payment(rt: &impl Print, call: &str, payment: Result<Amount, Refusal>) -> io::Result<()> {
     match payment {
-        Payment::Paid(amount) => println!(rt; "{call}: paid {} grosze", amount.0),
-        Payment::Refused(number) => say_refused(rt, call, number),
+        Ok(amount) => println!(rt; "{call}: paid {} grosze", amount.0),
+        Err(refusal) => say_refused(rt, call, u64::from(refusal)),
     }
 }
 
 // Kept: 4f: what a line says of an answer is this program's own; a `Display` of it would need a type around each answer, since those are of acts.
-fn say_returning(rt: &impl Print, call: &str, returning: Returning) -> io::Result<()> {
+fn say_returning(
+    rt: &impl Print,
+    call: &str,
+    returning: Result<Returned, Refusal>,
+) -> io::Result<()> {
     match returning {
-        Returning::Amounts(amount, orders) => {
-            println!(rt;
-                "{call}: returned {} grosze of amounts, orders {orders}",
-                amount.0
-            )
-        }
-        Returning::Fees(fee, orders) => {
-            println!(rt;
-                "{call}: returned {} grosze of fees, orders {orders}",
-                fee.0
-            )
-        }
-        Returning::Refused(number) => say_refused(rt, call, number),
+        Ok(returned) => say_returned(rt, call, returned),
+        Err(refusal) => say_refused(rt, call, u64::from(refusal)),
     }
+}
+
+// The line of a return that is made.
+fn say_returned(rt: &impl Print, call: &str, returned: Returned) -> io::Result<()> {
+    let moneys = match returned.sum {
+        Sum::Amounts(_) => "amounts",
+        Sum::Fees(_) => "fees",
+    };
+    println!(rt;
+        "{call}: returned {} grosze of {moneys}, orders {}",
+        returned.sum.grosze(),
+        returned.count
+    )
 }
 
 // The line of a call that is refused with a number.

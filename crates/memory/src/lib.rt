@@ -8,6 +8,7 @@ pub mod head;
 pub mod holding;
 pub mod name;
 pub mod number;
+pub mod place;
 pub mod row;
 mod state;
 pub mod wait;

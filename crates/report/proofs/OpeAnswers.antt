@@ -7,6 +7,7 @@ use mathlib.Core.Option.{some}
 use Prim.Native.Nat.{ℕ, ◌+◌, ◌≤◌}
 use native.Mathlib.Omega.{arith}
 use lib.ListN.{length}
+use Rattle.std.specs.Prelude.{Ok, Err}
 use Rattle.text.proofs.Branches.{and_left}
 use Rattle.epe.specs.Ident.{identifier, ident_in_form}
 use Rattle.epe.specs.Name.{name_in_form}
@@ -17,11 +18,13 @@ use Rattle.model.specs.Sound.{shipment_sound}
 use Rattle.model.specs.declared.Row.{Row}
 use Rattle.model.proofs.SoundParts.{in_order, halves}
 use Rattle.memory.specs.Heads.{shipment_in}
+use Rattle.memory.specs.declared.place.Place.{Place}
 use Rattle.memory.specs.Read.{orders_at, rows_from, shipment_at, read_book}
-use Rattle.acts.specs.declared.place.Place.TheVariants.{Unsound, Unknown, At}
+use Rattle.acts.specs.Refusal.{number_of}
+use Rattle.acts.specs.declared.refusal.Refusal.{Refusal}
 use Rattle.acts.specs.Inner.Place.{called_in, place_in}
-use Rattle.acts.proofs.PlaceInBook.{unsound_place}
-use Rattle.acts.proofs.FoundInBook.{found_none, found_at}
+use Rattle.acts.proofs.PlaceInBook.{no_place}
+use Rattle.acts.proofs.FoundInBook.{none_found, found_at}
 use Rattle.write.specs.Spelled.{places_of}
 use Rattle.write.specs.Written.{Wrote, leaving}
 use Rattle.report.specs.Lines.{is_moment}
@@ -71,16 +74,14 @@ module _ (m : List ℕ) (i k : ℕ) (own : List ℕ) (created : ℕ) (codes outp
 
 -- and of a book, by where the shipment is found
 module _ (m : List ℕ) (ident : Ident) (own : List ℕ) (created : ℕ) (codes output : List ℕ) where
-  pub ope_unsound : place_in (called_in ident) m ≡ Unsound → leaving output 10 ≡ ope_written (read_book m) ident own created codes output
-  unfolding read_book ope_written
-  ope_unsound e = rw (unsound_place (called_in ident) m e)
-
-  pub ope_unknown : place_in (called_in ident) m ≡ Unknown → leaving output 13 ≡ ope_written (read_book m) ident own created codes output
+  pub ope_unplaced : {refusal : Refusal} → Err refusal ≡ place_in (called_in ident) m
+      → leaving output (number_of refusal) ≡ ope_written (read_book m) ident own created codes output
   unfolding read_book ope_written ope_of
-  ope_unknown e = let found = found_none ident m e in rw (found.0, found.1)
+  ope_unplaced e =
+      no_place (called_in ident) m e (λ same unsound. rw (same, unsound)) (λ same held none. rw (same, held, none_found ident m none))
 
-  pub ope_at : {i k : ℕ} → place_in (called_in ident) m ≡ At i k → {wrote : Wrote} → wrote ≡ ope_of own created codes output (some (shipment_at m i k))
-      → wrote ≡ ope_written (read_book m) ident own created codes output
+  pub ope_at : {place : Place} → Ok place ≡ place_in (called_in ident) m → {wrote : Wrote}
+      → wrote ≡ ope_of own created codes output (some (shipment_at m place.head place.row)) → wrote ≡ ope_written (read_book m) ident own created codes output
   unfolding read_book ope_written
   ope_at e is = let found = found_at ident m e in is ∙ rw (found.0, found.1)
 
@@ -88,4 +89,4 @@ module _ (m : List ℕ) (ident : Ident) (own : List ℕ) (created : ℕ) (codes 
 pub ruleset on_rows = (ope_fits, ope_found, ope_measured, ope_own)
 
 -- and by where the shipment is found
-pub ruleset on_places = (ope_unsound, ope_unknown, ope_at)
+pub ruleset on_places = (ope_unplaced, ope_at)

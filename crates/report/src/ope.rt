@@ -15,10 +15,11 @@ ghost use Rattle.report.specs.Inner.Faults.{found_fault, found_order, found_in};
 
 use crate::lines::{OPENING, is_moment, put_opening, put_record};
 use crate::refusals;
-use acts::place::{Place, place_called};
+use acts::place::place_called;
 use epe::ident::{ident_of, is_identifier};
 use memory::head::{head_bytes, orders};
 use memory::name::ident;
+use memory::place::Place;
 use memory::row::state;
 use model::State;
 use text::bytes::first;
@@ -48,9 +49,8 @@ pub fn write_ope(
     ensures { record { answer = result; output = output.new } ≡ ope_written (read_book book.now) (ident_of id.now) own.now created codes.now output.old }
 {
     match place_called(book, ident_of(id)) {
-        Place::Unsound => Writing::Refused(refusals::UNSOUND),
-        Place::Unknown => Writing::Refused(refusals::UNKNOWN),
-        Place::At(i, k) => write_at(book, i, k, own, created, codes, output),
+        Ok(place) => write_at(book, place, own, created, codes, output),
+        Err(refusal) => Writing::Refused(u64::from(refusal)),
     }
 }
 
@@ -58,17 +58,16 @@ pub fn write_ope(
 #[tactic(auto, using(crate::proofs::OpeAnswers::ope_source, crate::proofs::OpeAnswers::ope_there), unfolding(memory::specs::Heads::shipment_in))]
 fn write_at(
     book: &[u8],
-    i: usize,
-    k: usize,
+    place: Place,
     own: &[u8],
     created: u64,
     codes: &[u64],
     output: &mut [u8],
 ) -> Writing
-    requires { Sits book.now i k }
-    ensures { record { answer = result; output = output.new } ≡ ope_of own.now created codes.now output.old (some (shipment_at book.now i k)) }
+    requires { Sits book.now place.head place.row }
+    ensures { record { answer = result; output = output.new } ≡ ope_of own.now created codes.now output.old (some (shipment_at book.now place.head place.row)) }
 {
-    let head = head_bytes(book, i);
+    let head = head_bytes(book, place.head);
     let ident = ident(head);
     let bytes = ident.bytes;
     let source = first(&bytes, ident.len);
@@ -78,7 +77,7 @@ fn write_at(
         created,
         codes,
         book,
-        k,
+        place.row,
         orders(head) as usize,
         output,
     )

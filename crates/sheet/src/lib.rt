@@ -14,6 +14,7 @@ use crate::row::row_at;
 use crate::total::{Adding, add};
 use epe::ident::Ident;
 use memory::head::{head_bytes, orders};
+use memory::place::Place;
 use memory::{SIZE, shipments};
 use money::{Amount, Fee};
 use sound::is_sound;
@@ -126,7 +127,7 @@ fn fill(table: &mut [SheetRow], book: &[u8], n: usize)
 {
     let mut k = 0;
     for i in 0..n {
-        let line = line_at(book, i, k);
+        let line = line_at(book, Place { head: i, row: k });
         table[i] = line.row;
         k = line.next;
     }
@@ -175,11 +176,14 @@ fn plan_sheet(book: &[u8], room: usize, totals: Totals) -> Plan
 
 // The row of the shipment at a place, and where the next one's orders begin.
 #[tactic(auto, using(memory::proofs::HeadFields::orders_are))]
-fn line_at(book: &[u8], i: usize, k: usize) -> Line
-    requires { Sits book.now i k }
-    ensures { result ≡ line_at book.now i k }
+fn line_at(book: &[u8], place: Place) -> Line
+    requires { Sits book.now place.head place.row }
+    ensures { result ≡ line_at book.now place.head place.row }
 {
-    let row = row_at(book, i, k);
-    let n = orders(head_bytes(book, i)) as usize;
-    Line { row, next: k + n }
+    let row = row_at(book, place);
+    let n = orders(head_bytes(book, place.head)) as usize;
+    Line {
+        row,
+        next: place.row + n,
+    }
 }

@@ -14,6 +14,7 @@ use crate::{Amounts, Fees, SheetRow};
 use memory::head::{accepted, head_bytes, is_paired, orders, returned};
 use memory::holding::{holding, holding_table};
 use memory::name::ident;
+use memory::place::Place;
 use memory::row::{amount, fee};
 use money::{Amount, Fee, Grosze, Money};
 
@@ -28,14 +29,14 @@ pub struct Parts {
 
 // The row of the shipment at a place.
 #[tactic(auto, using(crate::proofs::Dividing::all_needed, crate::proofs::Dividing::all_held), unfolding(memory::specs::Heads::shipment_in, crate::specs::Sheet::row_for))]
-pub fn row_at(memory: &[u8], i: usize, k: usize) -> SheetRow
-    requires { Sits memory.now i k }
-    ensures { result ≡ row_for (shipment_at memory.now i k) }
+pub fn row_at(memory: &[u8], place: Place) -> SheetRow
+    requires { Sits memory.now place.head place.row }
+    ensures { result ≡ row_for (shipment_at memory.now place.head place.row) }
 {
-    let parts = parts_at(memory, i, k);
-    let ident = ident(head_bytes(memory, i));
-    let amounts = division_at(memory, i, k, Money::K, parts.amounts.0, parts.held.0);
-    let fees = division_at(memory, i, k, Money::O, parts.fees.0, parts.fees_held.0);
+    let parts = parts_at(memory, place);
+    let ident = ident(head_bytes(memory, place.head));
+    let amounts = division_at(memory, place, Money::K, parts.amounts.0, parts.held.0);
+    let fees = division_at(memory, place, Money::O, parts.fees.0, parts.fees_held.0);
     SheetRow {
         ident,
         amounts: Amounts::of(amounts),
@@ -45,25 +46,25 @@ pub fn row_at(memory: &[u8], i: usize, k: usize) -> SheetRow
 
 // The parts of the shipment at a place; none unless it is Paired.
 #[tactic(auto, using(crate::proofs::Adding::by_stage))]
-fn parts_at(memory: &[u8], i: usize, k: usize) -> Parts
-    requires { Sits memory.now i k }
-    ensures { result ≡ parts_once_paired (shipment_at memory.now i k) }
+fn parts_at(memory: &[u8], place: Place) -> Parts
+    requires { Sits memory.now place.head place.row }
+    ensures { result ≡ parts_once_paired (shipment_at memory.now place.head place.row) }
 {
-    let head = head_bytes(memory, i);
+    let head = head_bytes(memory, place.head);
     if !is_paired(head) {
         return no_parts();
     }
-    parts_of(memory, k, orders(head) as usize)
+    parts_of(memory, place.row, orders(head) as usize)
 }
 
 // What was accepted of a money in the shipment at a place, divided by what its orders need and hold: each order needs its own worth, and holds it or not.
 #[tactic(auto, using(memory::proofs::HeadFields::accepted_within, memory::proofs::HeadFields::returned_within))]
-fn division_at(memory: &[u8], i: usize, k: usize, money: Money, needs: u64, holds: u64) -> Division
-    requires { Sits memory.now i k × (needs ≡ need_once_paired money (shipment_at memory.now i k)) × (holds ≡ held money (shipment_at memory.now i k)) }
-    ensures value { result ≡ division_of money (shipment_at memory.now i k) }
+fn division_at(memory: &[u8], place: Place, money: Money, needs: u64, holds: u64) -> Division
+    requires { Sits memory.now place.head place.row × (needs ≡ need_once_paired money (shipment_at memory.now place.head place.row)) × (holds ≡ held money (shipment_at memory.now place.head place.row)) }
+    ensures value { result ≡ division_of money (shipment_at memory.now place.head place.row) }
     ensures within { DivisionWithin result }
 {
-    let head = head_bytes(memory, i);
+    let head = head_bytes(memory, place.head);
     let accepted = accepted(head, money).grosze();
     let returned = returned(head, money).grosze();
     Division::of(accepted, returned, needs, holds)

@@ -7,6 +7,7 @@ ghost use Rattle.sheet.specs.Inner.Filling.{TotalsWithin, RowWithin, adding_of};
 use crate::row::row_at;
 use crate::{Amounts, Fees, SheetRow, Totals};
 use memory::head::{head_bytes, orders};
+use memory::place::Place;
 
 // Totals with rows added, or one of them is above the cap.
 #[derive(Clone, Copy)]
@@ -27,7 +28,7 @@ pub fn add(memory: &[u8], n: usize, totals: Totals) -> Adding
     let mut sums = totals;
     let mut k = 0;
     for i in 0..n {
-        let row = row_at(memory, i, k);
+        let row = row_at(memory, Place { head: i, row: k });
         if !can_add(sums, row) {
             return Adding::Above;
         }

@@ -11,8 +11,8 @@ use Rattle.memory.specs.Layout.{row_bytes}
 use Rattle.memory.specs.Rows.{row_of}
 use Rattle.memory.specs.Read.{orders_at, shipment_at}
 use Rattle.memory.specs.Inner.Returns.{RowReturned}
+use Rattle.acts.specs.declared.answer.Returned.{Returned}
 use Rattle.acts.specs.declared.route.Taken.{Taken}
-use Rattle.acts.specs.declared.route.Waits.{Waits}
 use Rattle.acts.specs.Inner.Place.{RowsStored}
 
 -- What waits in some rows.
@@ -38,7 +38,7 @@ abbrev pub RowsReturned : Route → Money → ℕ → ℕ → List ℕ → List 
 RowsReturned route money k n m m' = RowsStored (λ r. after_return route money (row_of (row_bytes m r))) k n m m'
 
 -- So are all rows of the shipment at a place, and what waited in them is found. Where it was of no order, no byte moves.
-pub record Cleared (route : Route) (money : Money) (i k : ℕ) (m m' : List ℕ) (waited : Waits) : Type 0 where
+pub record Cleared (route : Route) (money : Money) (i k : ℕ) (m m' : List ℕ) (waited : Returned) : Type 0 where
   pub sum : waited.sum ≡ sum_of money (waiting route money (shipment_at m i k))
   pub count : waited.count ≡ waiting_orders route money (shipment_at m i k)
   pub returned : RowsReturned route money k (orders_at m i) m m'

@@ -1,22 +1,18 @@
--- `book::close` closes the shipment where it is found.
-use Rattle.book.proofs.ShipmentOfCall.{seeks_called}
-use Rattle.acts.proofs.PlaceInBook.{sits}
-use Rattle.book.proofs.CallDoesStep.{does_unsound, does_unknown, does_at}
-use Rattle.acts.specs.Inner.Place.{called_in}
+-- `book::close` closes the shipment where the shipment is found.
+use Rattle.acts.proofs.PassedOn.{passed_on}
 use Rattle.model.specs.Calls.{Close, acted}
-use mathlib.Core.Path.{sym, ◌∙◌}
+use Rattle.acts.specs.Inner.Place.{called_in}
+use Rattle.acts.proofs.PlaceInBook.{sits}
+use Rattle.book.proofs.CallDoesStep.{not_called, called_at}
 use Rattle.book.proofs.close.Goals as goal
 
+pub returns-in_err-place : goal.returns-in_err-place
+returns-in_err-place c =
+    rw (passed_on c.from_residual.ensures.1) (not_called Close c.in_err-place.ensures)
+
 pub close_at-requires : goal.close_at-requires
-close_at-requires c = sits (called_in _) (sym c.place_called.ensures ∙ c.in-At.is)
+close_at-requires c = sits (called_in _) c.in_ok-place.ensures
 
-pub returns-in-Unsound : goal.returns-in-Unsound
-returns-in-Unsound c = does_unsound (seeks_called _ Close) (sym c.place_called.ensures ∙ c.in-Unsound.is)
-
-pub returns-in-Unknown : goal.returns-in-Unknown
-returns-in-Unknown c = does_unknown (seeks_called _ Close) (sym c.place_called.ensures ∙ c.in-Unknown.is)
-
-pub returns-in-At : goal.returns-in-At
+pub returns : goal.returns
 unfolding acted
-returns-in-At c =
-    does_at (seeks_called _ Close) (sym c.place_called.ensures ∙ c.in-At.is) c.close_at.ensures
+returns c = called_at Close c.in_ok-place.ensures c.close_at.ensures

@@ -1,22 +1,16 @@
 -- `book::pair` pairs the shipment where it is found.
-use Rattle.book.proofs.ShipmentOfCall.{seeks_called}
-use Rattle.acts.proofs.PlaceInBook.{sits}
-use Rattle.book.proofs.CallDoesStep.{does_unsound, does_unknown, does_at}
-use Rattle.acts.specs.Inner.Place.{called_in}
 use Rattle.model.specs.Calls.{Pair, acted}
-use mathlib.Core.Path.{sym, ◌∙◌}
+use Rattle.acts.specs.Inner.Place.{called_in}
+use Rattle.acts.proofs.PlaceInBook.{sits}
+use Rattle.book.proofs.CallDoesStep.{not_called, called_at}
 use Rattle.book.proofs.pair.Goals as goal
 
 pub pair_at-requires : goal.pair_at-requires
-pair_at-requires c = sits (called_in _) (sym c.place_called.ensures ∙ c.in-At.is)
+pair_at-requires c = sits (called_in _) c.in-Ok.ensures
 
-pub returns-in-Unsound : goal.returns-in-Unsound
-returns-in-Unsound c = does_unsound (seeks_called _ Pair) (sym c.place_called.ensures ∙ c.in-Unsound.is)
-
-pub returns-in-Unknown : goal.returns-in-Unknown
-returns-in-Unknown c = does_unknown (seeks_called _ Pair) (sym c.place_called.ensures ∙ c.in-Unknown.is)
-
-pub returns-in-At : goal.returns-in-At
+pub returns-in-Ok : goal.returns-in-Ok
 unfolding acted
-returns-in-At c =
-    does_at (seeks_called _ Pair) (sym c.place_called.ensures ∙ c.in-At.is) c.pair_at.ensures
+returns-in-Ok c = called_at Pair c.in-Ok.ensures c.pair_at.ensures
+
+pub returns-in-Err : goal.returns-in-Err
+returns-in-Err c = rw c.from.ensures (not_called Pair c.in-Err.ensures)

@@ -10,13 +10,13 @@ returns-then-not-is_paired c =
 
 pub returns-then-not-contains : goal.returns-then-not-contains
 returns-then-not-contains c =
-    no_order_at c.args.memory.now c.args.i c.args.k c.args.deed c.args.number
+    no_order_at c.args.memory.now c.args.place.head c.args.place.row c.args.deed c.args.number
     c.head_bytes-head.ensures.0 c.is_paired.ensures c.if-not-is_paired.false c.orders.ensures.0 (search rules)
     c.if-not-contains.true
 
 pub overflow_sub-at : goal.overflow_sub-at
 overflow_sub-at c =
-    from_one c.args.memory.now c.args.i c.args.k c.args.deed c.args.number
+    from_one c.args.memory.now c.args.place.head c.args.place.row c.args.deed c.args.number
     c.head_bytes-head.ensures.0 c.is_paired.ensures c.if-not-is_paired.false c.orders.ensures.0 (search rules)
     c.if-not-contains.false
 
@@ -25,7 +25,7 @@ overflow_add-at c =
     record {
       fits = omega (
         arith,
-        row_there c.args.memory.now c.args.i c.args.k c.args.deed c.args.number
+        row_there c.args.memory.now c.args.place.head c.args.place.row c.args.deed c.args.number
             c.head_bytes-head.ensures.0 c.is_paired.ensures c.if-not-is_paired.false c.orders.ensures.0 (search rules)
             c.if-not-contains.false c.requires,
       );
@@ -33,7 +33,7 @@ overflow_add-at c =
 
 pub fee-fee-requires : goal.fee-fee-requires
 fee-fee-requires c = (
-  row_there c.args.memory.now c.args.i c.args.k c.args.deed c.args.number
+  row_there c.args.memory.now c.args.place.head c.args.place.row c.args.deed c.args.number
       c.head_bytes-head.ensures.0 c.is_paired.ensures c.if-not-is_paired.false c.orders.ensures.0 (search rules)
       c.if-not-contains.false c.requires,
   search rules,
@@ -41,7 +41,7 @@ fee-fee-requires c = (
 
 pub amount-amount-requires : goal.amount-amount-requires
 amount-amount-requires c = (
-  row_there c.args.memory.now c.args.i c.args.k c.args.deed c.args.number
+  row_there c.args.memory.now c.args.place.head c.args.place.row c.args.deed c.args.number
       c.head_bytes-head.ensures.0 c.is_paired.ensures c.if-not-is_paired.false c.orders.ensures.0 (search rules)
       c.if-not-contains.false c.requires,
   search rules,
@@ -49,7 +49,7 @@ amount-amount-requires c = (
 
 pub state-state-requires : goal.state-state-requires
 state-state-requires c = (
-  row_there c.args.memory.now c.args.i c.args.k c.args.deed c.args.number
+  row_there c.args.memory.now c.args.place.head c.args.place.row c.args.deed c.args.number
       c.head_bytes-head.ensures.0 c.is_paired.ensures c.if-not-is_paired.false c.orders.ensures.0 (search rules)
       c.if-not-contains.false c.requires,
   search rules,
@@ -57,13 +57,13 @@ state-state-requires c = (
 
 pub returns-then-not-does_fit : goal.returns-then-not-does_fit
 returns-then-not-does_fit c =
-    unfit_at c.args.memory.now c.args.i c.args.k c.args.deed c.args.number
+    unfit_at c.args.memory.now c.args.place.head c.args.place.row c.args.deed c.args.number
     c.head_bytes-head.ensures.0 c.is_paired.ensures c.if-not-is_paired.false c.orders.ensures.0 (search rules)
     c.if-not-contains.false c.state-state.ensures c.does_fit.ensures c.if-not-does_fit.true
 
 pub store_state-requires : goal.store_state-requires
 store_state-requires c = (
-  row_there c.args.memory.now c.args.i c.args.k c.args.deed c.args.number
+  row_there c.args.memory.now c.args.place.head c.args.place.row c.args.deed c.args.number
       c.head_bytes-head.ensures.0 c.is_paired.ensures c.if-not-is_paired.false c.orders.ensures.0 (search rules)
       c.if-not-contains.false c.requires,
   search rules,
@@ -72,7 +72,7 @@ store_state-requires c = (
 pub returns : goal.returns
 returns c =
     rw (c.store_state.ensures, c.state_after.ensures)
-    (handled_at c.args.memory.now c.args.i c.args.k c.args.deed c.args.number
+    (handled_at c.args.memory.now c.args.place.head c.args.place.row c.args.deed c.args.number
     c.head_bytes-head.ensures.0 c.is_paired.ensures c.if-not-is_paired.false c.orders.ensures.0 (search rules)
     c.if-not-contains.false c.state-state.ensures c.does_fit.ensures
     c.requires c.fee-fee.ensures.0 c.amount-amount.ensures.0 c.if-not-does_fit.false)

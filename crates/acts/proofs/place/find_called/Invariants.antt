@@ -5,4 +5,4 @@ use mathlib.Core.Path.{◌≡◌}
 use Rattle.acts.proofs.place.find_called.Given as goal
 
 abbrev pub invariant-loop-i : goal.invariant-loop-i
-invariant-loop-i l = (l.k ≤ l.i * 65_536) × (place_from (called_in l.ident) l.memory l.i l.k (l.n - l.i) ≡ place_from (called_in l.ident) l.memory 0 0 l.n)
+invariant-loop-i l = (l.row ≤ l.i * 65_536) × (place_from (called_in l.ident) l.memory l.i l.row (l.n - l.i) ≡ place_from (called_in l.ident) l.memory 0 0 l.n)

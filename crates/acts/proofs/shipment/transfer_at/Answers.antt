@@ -10,11 +10,11 @@ use Rattle.acts.proofs.shipment.transfer_at.Goals as goal
 
 pub accepted-before-requires : goal.accepted-before-requires
 accepted-before-requires c =
-    (c.head_bytes.ensures.1, accepted_within _ c.args.i c.args.k c.head_bytes.ensures.0 c.requires.0 c.money-money.result)
+    (c.head_bytes.ensures.1, accepted_within _ c.args.place.head c.args.place.row c.head_bytes.ensures.0 c.requires.0 c.money-money.result)
 
 pub overflow_add-total : goal.overflow_add-total
 overflow_add-total c =
-    let fits = accepted_within _ c.args.i c.args.k c.head_bytes.ensures.0 c.requires.0 c.money-money.result in
+    let fits = accepted_within _ c.args.place.head c.args.place.row c.head_bytes.ensures.0 c.requires.0 c.money-money.result in
     let first = c.grosze.ensures ∙ grosze_is _ _ c.accepted-before.ensures in
     record { fits = omega (arith, fits, first, c.grosze-2.ensures, c.requires.1) }
 

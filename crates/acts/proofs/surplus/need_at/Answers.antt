@@ -16,11 +16,11 @@ returns-then-not-is_paired c =
 
 pub amounts_in-requires : goal.amounts_in-requires
 amounts_in-requires c =
-    (room_at _ c.args.i _ c.requires c.head_bytes-head.ensures.0 c.orders-n.ensures.0, c.requires.enough)
+    (room_at _ c.args.place.head _ c.requires c.head_bytes-head.ensures.0 c.orders-n.ensures.0, c.requires.enough)
 
 pub fees_in-requires : goal.fees_in-requires
 fees_in-requires c =
-    (room_at _ c.args.i _ c.requires c.head_bytes-head.ensures.0 c.orders-n.ensures.0, c.requires.enough)
+    (room_at _ c.args.place.head _ c.requires c.head_bytes-head.ensures.0 c.orders-n.ensures.0, c.requires.enough)
 
 pub returns-in-K : goal.returns-in-K
 unfolding sum_of

@@ -1,5 +1,6 @@
 -- `book::enter::take_records` goes by the records, and enters the orders that were kept.
 use mathlib.Core.Path.{◌≡◌, refl, ap, ◌∙◌}
+use Rattle.acts.proofs.PassedOn.{passed_on}
 use Rattle.epe.specs.Profile.{terms_for}
 use Rattle.contents.specs.Steps.{Records, records_of, records_behind}
 use Rattle.contents.specs.declared.stated.Stated.{Stated}
@@ -26,18 +27,18 @@ enter_behind-requires c =
     let start = (goal.at.enter_behind-requires c).Start in (
       opened _ _ c.args.profile c.args.name c.args.file.now c.requires.0 c.requires.1 c.requires.2 c.requires.3 c.requires.4 (is_terms start),
       counted _ _ c.args.profile c.args.name c.args.file.now c.requires.0 c.requires.1 c.requires.2 c.requires.3 c.requires.4 (is_terms start) c.requires.5
-          (are_behind start c.in-Ok.ensures) refl,
+          (are_behind start c.in_ok-accepted.ensures) refl,
     )
 
-pub returns-in-Ok : goal.returns-in-Ok
-returns-in-Ok c =
-    let start = (goal.at.returns-in-Ok c).Start in
+pub returns : goal.returns
+returns c =
+    let start = (goal.at.returns c).Start in
     contents_accepted _ _ c.args.profile c.args.name c.args.file.now c.requires.0 c.requires.1 c.requires.2 c.requires.3 c.requires.4 (is_terms start)
-    c.requires.5 (are_behind start c.in-Ok.ensures) refl c.enter_behind.ensures
+    c.requires.5 (are_behind start c.in_ok-accepted.ensures) refl c.enter_behind.ensures
 
-pub returns-in-Err : goal.returns-in-Err
-returns-in-Err c =
-    let start = (goal.at.returns-in-Err c).Start in
-    rw c.from.ensures
+pub returns-in_err-accepted : goal.returns-in_err-accepted
+returns-in_err-accepted c =
+    let start = (goal.at.returns-in_err-accepted c).Start in
+    rw (passed_on c.from_residual.ensures.1)
     (records_refused _ _ c.args.profile c.args.name c.args.file.now c.requires.0 c.requires.1 c.requires.2 c.requires.3 c.requires.4 (is_terms start)
-    c.requires.5 (are_behind start c.in-Err.ensures) refl)
+    c.requires.5 (are_behind start c.in_err-accepted.ensures) refl)

@@ -1,9 +1,7 @@
 -- `report::ope::write_ope` writes where the shipment is found.
-use mathlib.Core.Path.{sym, ◌∙◌}
 use Rattle.acts.specs.Inner.Place.{called_in}
 use Rattle.acts.proofs.PlaceInBook.{sits}
 use Rattle.report.proofs.ope.write_ope.Goals as goal
 
 pub write_at-requires : goal.write_at-requires
-write_at-requires c =
-    sits (called_in _) (sym c.place_called.ensures ∙ c.in-At.is)
+write_at-requires c = sits (called_in _) c.in-Ok.ensures

@@ -8,7 +8,7 @@ use Rattle.sheet.proofs.row.division_at.Goals as goal
 pub returns : goal.returns
 returns c =
     let is = c.of.ensures
-    ∙ division_is _ c.args.i c.args.k c.requires.0 c.head_bytes-head.ensures.0 c.args.money
+    ∙ division_is _ c.args.place.head c.args.place.row c.requires.0 c.head_bytes-head.ensures.0 c.args.money
     (c.grosze-accepted.ensures ∙ ap grosze_in c.accepted.ensures ∙ grosze_of_sum c.args.money _)
     (c.grosze-returned.ensures ∙ ap grosze_in c.returned.ensures ∙ grosze_of_sum c.args.money _)
     c.requires.1 c.requires.2 in

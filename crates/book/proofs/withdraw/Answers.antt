@@ -1,8 +1,0 @@
--- `book::withdraw` says that it was done.
-use Rattle.book.proofs.withdraw.Goals as goal
-
-pub returns-in-Handled : goal.returns-in-Handled
-returns-in-Handled c = rw c.in-Handled.is at c.handle.ensures
-
-pub returns-in-Refused : goal.returns-in-Refused
-returns-in-Refused c = rw c.in-Refused.is at c.handle.ensures
