@@ -8,7 +8,7 @@ use native.Mathlib.Numerals.{add-one}
 use native.Mathlib.Omega.{arith}
 use borrow.Author.Tests.{lt-ltb, leb-true, eqb-true, eqb-false, eq-eqb, ne_eqb}
 use lib.Dec.{ltb, eqb}
-use lib.ListN.{length, get_or}
+use lib.ListN.{length}
 use Rattle.text.proofs.Branches.{and_right, both_yes, both_ways, either_way}
 use Rattle.money.specs.Money.{WithinSum, sum_of, grosze_in}
 use Rattle.money.specs.declared.Money.{Money}
@@ -25,19 +25,17 @@ use Rattle.model.specs.declared.Route.{Route}
 use Rattle.model.specs.declared.Row.{Row}
 use Rattle.model.proofs.Shipments.{only_if_true}
 use Rattle.model.proofs.SoundParts.{halves, in_order}
-use Rattle.memory.specs.Layout.{size, head_bytes, row_bytes}
-use Rattle.memory.specs.Rows.{code_in, row_of}
-use Rattle.memory.specs.Heads.{terms_in, stage_in, order_count_in, shipment_in}
+use Rattle.memory.specs.Layout.{row_bytes}
+use Rattle.memory.specs.Rows.{row_of}
+use Rattle.memory.specs.Heads.{terms_in, stage_in, shipment_in}
 use Rattle.memory.specs.Read.{rows_from, orders_at, shipment_at, Sits}
-use Rattle.memory.specs.Inner.Returns.{WaitTable}
-use Rattle.memory.proofs.ReturnLaws.{row_returned}
 use Rattle.acts.specs.Inner.Place.{ActAt}
 use Rattle.acts.specs.Inner.Waits.{worth_waiting, fees_wait_in_vain, waits_in_vain, RowCleared, RowsReturned, Cleared}
 use Rattle.acts.specs.declared.answer.Returned.{Returned as Waited}
 use Rattle.acts.specs.declared.route.Taken.{Taken}
 use Rattle.acts.proofs.RowsInTurn.{none_stored, one_more_stored}
 use Rattle.acts.proofs.RowLaws.{rows_mapped}
-use Rattle.memory.proofs.HeadFields.{orders_are, terms_are, paired_is}
+use Rattle.memory.proofs.HeadFields.{paired_is}
 use Rattle.acts.proofs.ShipmentChanged.{refused_at, rows_changed}
 
 -- a wait is at most 2, and counts as often as it adds to the byte of state
@@ -95,11 +93,21 @@ one_more_waits route money m k n {before} before_is took added =
     ∙ one_more_worth money waits _ (worth money row)
     ∙ ap (λ n. n * by_money money 1 2) (sum_more m (λ row. only_if (waits_on route money row) (worth money row)) k n)
 
--- the table says as much of a row's byte of state
-module _ {route : Route} {money : Money} {table : List ℕ} (is_table : WaitTable route money table) (m : List ℕ) (k : ℕ) {code : ℕ}
-    (code_is : code ≡ code_in (row_bytes m k)) (byte : code < 256) where
-  pub wait_told : k < most_rows → size ≤ length m → get_or table code 0 ≡ only_if (waits_on route money (row_of (row_bytes m k))) (by_money money 1 2)
-  wait_told there enough = (row_returned route money table is_table code byte m k there enough code_is).took
+-- and where rows are left of some
+pub left_waits : (route : Route) (money : Money) (row : Row) (left : List Row) (before : ℕ) {all taken : ℕ}
+    → before + worth_waiting route money (row ∷ left) * by_money money 1 2 ≡ all → taken ≡ only_if (waits_on route money row) (by_money money 1 2)
+    → before + worth money row * taken + worth_waiting route money left * by_money money 1 2 ≡ all
+left_waits route money row left before going took =
+    ap (λ n. before + worth money row * n + worth_waiting route money left * by_money money 1 2) took
+    ∙ split money (waits_on route money row) (worth money row) (worth_waiting route money left)
+    ∙ going
+  where
+    split : (money : Money) (waits : Bool) (n rest : ℕ)
+        → before + n * only_if waits (by_money money 1 2) + rest * by_money money 1 2 ≡ before + (only_if waits n + rest) * by_money money 1 2
+    split K true n rest = omega arith
+    split K false n rest = omega arith
+    split O true n rest = omega arith
+    split O false n rest = omega arith
 
 -- rows returned one after the other
 abbrev orders_waiting : Route → Money → List Row → ℕ
@@ -210,38 +218,35 @@ module _ (route : Route) (s : Shipment) where
       by true n some none = absurd (omega arith)
       by false n some none = refl
 
-module _ (m : List ℕ) (i k : ℕ) {head : List ℕ} (is_head : head ≡ head_bytes m i) where
-  abbrev s : Shipment
-  s = shipment_at m i k
+-- whether what waits in O is asked beforehand
+module _ (head : List ℕ) (rows : List Row) (route : Route) where
+  abbrev t : Shipment
+  t = shipment_in head rows
 
-  -- what the head says of the number of orders, and of the flat part
-  pub count_at : {n : ℕ} → n ≡ order_count_in head → n ≡ orders_at m i
-  count_at is = is ∙ orders_are m i k is_head
-
-  module _ (route : Route) {terms : Terms} (terms_is : terms ≡ terms_in head) where
-    flat_is : terms.flat.0 ≡ s.agreed.terms.flat.0
-    flat_is = ap (λ (t : Terms). t.flat.0) (terms_is ∙ terms_are m i k is_head)
-
-    pub none_in_vain : (terms.flat.0 ≡ 0 → ⊥) → eqb terms.flat.0 0 ≡ fees_wait_in_vain route s
+  module _ {terms : Terms} (terms_is : terms ≡ terms_in head) where
+    pub none_in_vain : (terms.flat.0 ≡ 0 → ⊥) → eqb terms.flat.0 0 ≡ fees_wait_in_vain route t
+    unfolding shipment_in
     none_in_vain above =
         let not_zero = ne_eqb terms.flat.0 0 above in
-        not_zero ∙ ap (λ t. t && eqb (waiting route O s) 0) (sym not_zero ∙ ap (λ n. eqb n 0) flat_is)
+        not_zero ∙ ap (λ t'. t' && eqb (waiting route O t) 0) (sym not_zero ∙ ap (λ (terms : Terms). eqb terms.flat.0 0) terms_is)
 
-    pub sum_in_vain : {n sum : ℕ} → terms.flat.0 ≡ 0 → n ≡ order_count_in head → sum ≡ worth_waiting route O (rows_from m k n) * 2
-        → eqb sum 0 ≡ fees_wait_in_vain route s
+    pub sum_in_vain : {sum : ℕ} → terms.flat.0 ≡ 0 → sum ≡ worth_waiting route O rows * 2 → eqb sum 0 ≡ fees_wait_in_vain route t
     unfolding waiting shipment_in
-    sum_in_vain {n} {sum} none is_count sum_is =
-        let waits = worth_waiting route O (rows_from m k (orders_at m i)) in
-        let twice : sum ≡ waits * 2 = sum_is ∙ ap (λ n. worth_waiting route O (rows_from m k n) * 2) (count_at is_count) in
+    sum_in_vain {sum} none sum_is =
+        let waits = worth_waiting route O rows in
         both_ways (eqb sum 0) (eqb waits 0)
         (λ yes_sum. eq-eqb waits 0 (omega (arith, eqb-true sum 0 yes_sum)))
         (λ yes_waits. eq-eqb sum 0 (omega (arith, eqb-true waits 0 yes_waits)))
-        ∙ ap (λ t. t && eqb waits 0) (sym (eq-eqb terms.flat.0 0 none) ∙ ap (λ n. eqb n 0) flat_is)
+        ∙ ap (λ t'. t' && eqb waits 0) (sym (eq-eqb terms.flat.0 0 none) ∙ ap (λ (terms : Terms). eqb terms.flat.0 0) terms_is)
+
+module _ (m : List ℕ) (i k : ℕ) (head : List ℕ) (rows : List Row) (is : shipment_in head rows ≡ shipment_at m i k) where
+  abbrev s : Shipment
+  s = shipment_at m i k
 
   -- "Paired? 19"
   module _ (route : Route) (money : Money) {paired : Bool} (is-paired : paired ≡ is_paired (stage_in head)) where
     paired_test : is_paired s.stage ≡ paired
-    paired_test = sym (is-paired ∙ paired_is m i k is_head)
+    paired_test = sym (is-paired ∙ paired_is head rows is)
 
     pub unpaired_at : paired ≡ false → ActAt m i k (returned_by route money) (Refused 19) m
     unfolding returned_by
@@ -269,7 +274,10 @@ module _ (m : List ℕ) (i k : ℕ) {head : List ℕ} (is_head : head ≡ head_b
             let all_needed = only_if_true (is_paired s.stage) (need money s) (paired_test ∙ held) in
             omega (arith, waits_below route money s, all_needed, moneys.covered, moneys.accepted_fits)
 
-        module _ {vain : Bool} (is_vain : vain ≡ waits_in_vain route money s) where
+        module _ {vain : Bool} (is-vain : vain ≡ waits_in_vain route money (shipment_in head rows)) where
+          is_vain : vain ≡ waits_in_vain route money s
+          is_vain = is-vain ∙ ap (waits_in_vain route money) is
+
           pub worthless_at : vain ≡ true → ActAt m i k (returned_by route money) (Refused 23) m
           worthless_at h = nothing_to_return (worthless route money s (sym is_vain ∙ h))
 

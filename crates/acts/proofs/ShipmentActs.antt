@@ -12,23 +12,23 @@ use Rattle.epe.proofs.QuestionLaws.{asked_no, asked_yes, asked_none}
 use Rattle.model.specs.Shipment.{Shipment, accepted, is_waiting}
 use Rattle.model.specs.Calls.{Refused, Done, transferred, closed}
 use Rattle.model.specs.declared.Stage.TheVariants.{Closed}
-use Rattle.memory.specs.Layout.{head_bytes}
-use Rattle.memory.specs.Heads.{stage_in, transfers_in}
+use Rattle.model.specs.declared.Row.{Row}
+use Rattle.memory.specs.Heads.{stage_in, shipment_in}
 use Rattle.memory.specs.Read.{shipment_at, Sits}
 use Rattle.memory.specs.Inner.Stored.{with_stage_at, with_transfers_at}
 use Rattle.acts.specs.Inner.Place.{ActAt}
-use Rattle.memory.proofs.HeadFields.{waiting_is, accepted_is}
+use Rattle.memory.proofs.HeadFields.{waiting_is}
 use Rattle.acts.proofs.ShipmentChanged.{refused_at}
 use Rattle.acts.proofs.HeadActs.{stage_changed, accepted_changed}
 
-module _ (m : List ℕ) (i k : ℕ) (sits : Sits m i k) {head : List ℕ} (is_head : head ≡ head_bytes m i) where
+module _ (m : List ℕ) (i k : ℕ) (sits : Sits m i k) (head : List ℕ) (rows : List Row) (is : shipment_in head rows ≡ shipment_at m i k) where
   abbrev s : Shipment
   s = shipment_at m i k
 
   -- "Total accepted for that money still at most 9,999,999,999,999? 14"
-  module _ (money : Money) (amount : ℕ) {before : ℕ} (is_before : before ≡ transfers_in money head) where
+  module _ (money : Money) (amount : ℕ) {before : ℕ} (is_before : before ≡ accepted money (shipment_in head rows)) where
     before_is : before ≡ accepted money s
-    before_is = is_before ∙ accepted_is m i k is_head money
+    before_is = is_before ∙ ap (accepted money) is
 
     total_is : is_sum (accepted money s + amount) ≡ is_sum (before + amount)
     total_is = ap (λ n. is_sum (n + amount)) (sym before_is)
@@ -47,7 +47,7 @@ module _ (m : List ℕ) (i k : ℕ) (sits : Sits m i k) {head : List ℕ} (is_he
   -- "Waiting? 15"
   module _ {waiting : Bool} (is-waiting : waiting ≡ is_waiting (stage_in head)) where
     waiting_test : is_waiting s.stage ≡ waiting
-    waiting_test = sym (is-waiting ∙ waiting_is m i k is_head)
+    waiting_test = sym (is-waiting ∙ waiting_is head rows is)
 
     pub not_closed_at : waiting ≡ false → ActAt m i k closed (Refused 15) m
     unfolding closed

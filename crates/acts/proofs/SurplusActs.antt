@@ -7,73 +7,81 @@ use Prim.Native.Nat.{ℕ, ◌+◌, ◌-◌, ◌≤◌, ◌<◌}
 use native.Mathlib.Omega.{arith}
 use borrow.Author.Tests.{lt-ltb}
 use lib.Dec.{ltb}
+use Rattle.money.specs.Money.{amount, fee, sum_of, WithinSum}
+use Rattle.money.specs.declared.Amount.{Amount}
+use Rattle.money.specs.declared.Fee.{Fee}
 use Rattle.money.specs.declared.Money.{Money}
-use Rattle.money.specs.Money.{WithinSum}
+use Rattle.money.specs.declared.Money.TheVariants.{K, O}
+use Rattle.money.specs.declared.Sum.TheVariants.{Amounts, Fees}
 use Rattle.epe.proofs.QuestionLaws.{asked_no, asked_yes, asked_none}
-use Rattle.model.specs.Shipment.{Shipment, accepted, returned, is_waiting, is_paired, only_if, need, need_once_paired, free}
+use Rattle.model.specs.Shipment.{Shipment, accepted, returned, is_waiting, is_paired, only_if, sum_over, worth, need, need_once_paired, free}
 use Rattle.model.specs.Calls.{Refused, Returned, surplus_returned}
 use Rattle.model.proofs.SoundParts.{in_order}
-use Rattle.memory.specs.Layout.{head_bytes}
-use Rattle.memory.specs.Heads.{stage_in, transfers_in, surplus_in}
+use Rattle.model.specs.Sound.{shipment_sound}
+use Rattle.model.specs.declared.Row.{Row}
+use Rattle.memory.specs.Heads.{stage_in, shipment_in}
 use Rattle.memory.specs.Read.{shipment_at, Sits}
 use Rattle.memory.specs.Inner.Stored.{with_surplus_at}
 use Rattle.acts.specs.Inner.Place.{ActAt}
-use Rattle.memory.proofs.HeadFields.{waiting_is, paired_is, accepted_is, returned_is}
+use Rattle.memory.proofs.HeadFields.{waiting_is}
 use Rattle.acts.proofs.ShipmentChanged.{refused_at}
 use Rattle.acts.proofs.HeadActs.{returned_changed}
 
-module _ (m : List ℕ) (i k : ℕ) (sits : Sits m i k) {head : List ℕ} (is_head : head ≡ head_bytes m i) where
+-- "less the need once Paired"
+module _ (head : List ℕ) (rows : List Row) where
+  abbrev t : Shipment
+  t = shipment_in head rows
+
+  module _ {paired : Bool} (is-paired : paired ≡ is_paired (stage_in head)) where
+    pub none_needed : (money : Money) → paired ≡ false → sum_of money 0 ≡ sum_of money (need_once_paired money t)
+    unfolding shipment_in
+    none_needed money other = ap (λ held. sum_of money (only_if held (need money t))) (sym other ∙ is-paired)
+
+    needed : (money : Money) → paired ≡ true → need money t ≡ need_once_paired money t
+    unfolding shipment_in
+    needed money held = ap (λ held. only_if held (need money t)) (sym held ∙ is-paired)
+
+    pub needed_amounts : {amounts : Amount} → paired ≡ true → amounts ≡ amount (sum_over (worth K) rows) → Amounts amounts ≡ sum_of K (need_once_paired K t)
+    unfolding sum_of need shipment_in
+    needed_amounts held are = ap Amounts (are ∙ ap amount (needed K held))
+
+    pub needed_fees : {fees : Fee} → paired ≡ true → fees ≡ fee (sum_over (worth O) rows) → Fees fees ≡ sum_of O (need_once_paired O t)
+    unfolding sum_of need shipment_in
+    needed_fees held are = ap Fees (are ∙ ap fee (needed O held))
+
+  -- of a sound shipment what was accepted covers both
+  module _ (sound : shipment_sound t ≡ true) (money : Money) where
+    pub needed_within : need_once_paired money t ≤ accepted money t
+    needed_within = omega (arith, ((in_order t sound).moneys money).covered)
+
+    pub gone_within : returned money t ≤ accepted money t - need_once_paired money t
+    gone_within = omega (arith, ((in_order t sound).moneys money).covered)
+
+module _ (m : List ℕ) (i k : ℕ) (sits : Sits m i k) (head : List ℕ) (rows : List Row) (is : shipment_in head rows ≡ shipment_at m i k) where
   abbrev s : Shipment
   s = shipment_at m i k
-
-  -- "less the need once Paired"
-  module _ (money : Money) {paired : Bool} (is-paired : paired ≡ is_paired (stage_in head)) where
-    paired_test : paired ≡ is_paired s.stage
-    paired_test = is-paired ∙ paired_is m i k is_head
-
-    pub none_needed : paired ≡ false → 0 ≡ need_once_paired money s
-    none_needed other = ap (λ t. only_if t (need money s)) (sym other ∙ paired_test)
-
-    pub needed : {n : ℕ} → paired ≡ true → n ≡ need money s → n ≡ need_once_paired money s
-    needed held is_need = is_need ∙ ap (λ t. only_if t (need money s)) (sym held ∙ paired_test)
-
-  module _ (money : Money) {received needed_now : ℕ} (is_received : received ≡ transfers_in money head)
-      (is_needed : needed_now ≡ need_once_paired money s) where
-    received_is : received ≡ accepted money s
-    received_is = is_received ∙ accepted_is m i k is_head money
-
-    pub needed_within : needed_now ≤ received
-    needed_within = omega (arith, received_is, is_needed, ((in_order s sits.sound).moneys money).covered)
-
-    module _ {gone : ℕ} (is_gone : gone ≡ surplus_in money head) where
-      gone_is : gone ≡ returned money s
-      gone_is = is_gone ∙ returned_is m i k is_head money
-
-      pub gone_within : gone ≤ received - needed_now
-      gone_within = omega (arith, received_is, is_needed, gone_is, ((in_order s sits.sound).moneys money).covered)
-
-      pub free_is : received - needed_now - gone ≡ free money s
-      unfolding free
-      free_is = rw (received_is, is_needed, gone_is)
 
   -- "For ZWR: not Waiting? 24. Anything above zero to return? 23."
   module _ (money : Money) {waiting : Bool} (is-waiting : waiting ≡ is_waiting (stage_in head)) where
     waiting_test : is_waiting s.stage ≡ waiting
-    waiting_test = sym (is-waiting ∙ waiting_is m i k is_head)
+    waiting_test = sym (is-waiting ∙ waiting_is head rows is)
 
     pub still_waiting_at : waiting ≡ true → ActAt m i k (surplus_returned money) (Refused 24) m
     unfolding surplus_returned
     still_waiting_at held = refused_at (asked_no 24 _ _ _ (ap not (waiting_test ∙ held)))
 
-    module _ (other : waiting ≡ false) {surplus : ℕ} (is_surplus : surplus ≡ free money s) where
+    module _ (other : waiting ≡ false) {surplus : ℕ} (is_free : surplus ≡ free money (shipment_in head rows)) where
+      is_surplus : surplus ≡ free money s
+      is_surplus = is_free ∙ ap (free money) is
+
       pub no_surplus_at : surplus ≡ 0 → ActAt m i k (surplus_returned money) (Refused 23) m
       unfolding surplus_returned
       no_surplus_at nothing =
           refused_at (asked_yes 24 _ _ _ (ap not (waiting_test ∙ other)) ∙ asked_no 23 _ _ _ (ap (ltb 0) (sym is_surplus ∙ nothing)))
 
-      module _ {gone : ℕ} (is_gone : gone ≡ surplus_in money head) where
+      module _ {gone : ℕ} (is_gone : gone ≡ returned money (shipment_in head rows)) where
         before_is : gone ≡ returned money s
-        before_is = is_gone ∙ returned_is m i k is_head money
+        before_is = is_gone ∙ ap (returned money) is
 
         pub fits_at : WithinSum (gone + surplus)
         unfolding free

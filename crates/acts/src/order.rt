@@ -6,9 +6,9 @@ ghost use Rattle.acts.specs.Inner.Place.{ActAt};
 ghost use Rattle.memory.specs.Read.{Sits};
 
 use crate::refusal::Refusal;
-use memory::head::{head_bytes, is_paired, orders};
 use memory::place::Place;
-use memory::row::{amount, fee, state, store_state};
+use memory::row::store_state;
+use memory::shipment::LentShipment;
 use model::{Deed, State};
 use money::{Amount, Fee};
 
@@ -20,6 +20,7 @@ pub struct Handled {
 }
 
 // Does a deed with an order of the shipment at a place.
+#[tactic(auto, using(crate::proofs::Orders::handles))]
 pub fn handle_at(
     memory: &mut [u8],
     place: Place,
@@ -29,21 +30,21 @@ pub fn handle_at(
     requires { Sits memory.old place.head place.row }
     ensures { ActAt memory.old place.head place.row (on_order deed number) (handling_of deed result) memory.new }
 {
-    let head = head_bytes(memory, place.head);
-    if !is_paired(head) {
+    let shipment = LentShipment::at(memory, place);
+    if !shipment.head.is_paired() {
         return Err(Refusal::NotPaired);
     }
-    if !(1..=orders(head)).contains(&number) {
+    if !(1..=shipment.rows.len() as u64).contains(&number) {
         return Err(Refusal::NoSuchOrder);
     }
-    let at = place.row + (number - 1) as usize;
-    let fee = fee(memory, at);
-    let amount = amount(memory, at);
-    let state = state(memory, at);
-    if !does_fit(deed, state) {
+    let past = (number - 1) as usize;
+    let order = shipment.rows.row(past);
+    if !does_fit(deed, order.state()) {
         return Err(Refusal::State);
     }
-    store_state(memory, at, state_after(deed));
+    let fee = order.fee();
+    let amount = order.amount();
+    store_state(memory, place.row + past, state_after(deed));
     Ok(Handled { fee, amount })
 }
 

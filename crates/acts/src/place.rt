@@ -1,17 +1,14 @@
 // Where a call finds its shipment.
-ghost use Rattle.std.specs.Prelude.{◌≡◌, true, ◌≤◌, length};
+ghost use Rattle.std.specs.Prelude.{◌≡◌, true, ◌≤◌};
 ghost use Rattle.model.specs.Shipment.{most_shipments};
-ghost use Rattle.memory.specs.Layout.{size};
 ghost use Rattle.memory.specs.Read.{sound_in};
 ghost use Rattle.acts.specs.Inner.Place.{called_in, named_in, place_from, place_in};
 
 use crate::refusal::Refusal;
 use epe::ident::Ident;
 use epe::name::Name;
-use memory::head::{head_bytes, orders};
-use memory::name::{is_called, is_named};
+use memory::Memory;
 use memory::place::Place;
-use memory::shipments;
 use sound::is_sound;
 
 // The place of the shipment of an identifier.
@@ -22,7 +19,8 @@ pub fn place_called(memory: &[u8], ident: Ident) -> Result<Place, Refusal>
     if !is_sound(memory) {
         return Err(Refusal::Unsound);
     }
-    find_called(memory, ident, shipments(memory)).ok_or(Refusal::Unknown)
+    let memory = Memory::lent(memory);
+    find_called(&memory, ident, memory.shipments()).ok_or(Refusal::Unknown)
 }
 
 // The place of the shipment of a name, in a sound book: identifiers are all different there, so that it can be no other than that of its identifier.
@@ -31,25 +29,26 @@ pub fn place_named(memory: &[u8], name: Name) -> Result<Place, Refusal>
     requires { sound_in memory.now ≡ true }
     ensures { result ≡ place_in (named_in name) memory.now }
 {
-    let place = find_called(memory, name.ident, shipments(memory)).ok_or(Refusal::Unknown)?;
-    if !is_named(head_bytes(memory, place.head), name) {
+    let memory = Memory::lent(memory);
+    let place = find_called(&memory, name.ident, memory.shipments()).ok_or(Refusal::Unknown)?;
+    if !memory.head(place.head).is_named(name) {
         return Err(Refusal::Unknown);
     }
     Ok(place)
 }
 
 // The place of the shipment of an identifier, among n.
-pub fn find_called(memory: &[u8], ident: Ident, n: usize) -> Option<Place>
-    requires { (n ≤ most_shipments) × (size ≤ length memory.now) }
+pub fn find_called(memory: &Memory, ident: Ident, n: usize) -> Option<Place>
+    requires { n ≤ most_shipments }
     ensures { result ≡ place_from (called_in ident) memory.now 0 0 n }
 {
     let mut row = 0;
     for i in 0..n {
-        let head = head_bytes(memory, i);
-        if is_called(head, ident) {
+        let head = memory.head(i);
+        if head.is_called(ident) {
             return Some(Place { head: i, row });
         }
-        row += orders(head) as usize;
+        row += head.orders() as usize;
     }
     None
 }

@@ -1,13 +1,13 @@
 // A return by its route. OPR, ZPR and ZZR: what waits in a shipment's orders waits no more, and is added up on the way.
-ghost use Rattle.std.specs.Prelude.{◌≡◌, ◌+◌, ◌*◌, ◌≤◌, ◌<◌, ◌^◌, length, IfOk};
+ghost use Rattle.std.specs.Prelude.{◌≡◌, ◌+◌, ◌*◌, ◌≤◌, ◌<◌, ◌^◌, IfOk};
 ghost use Rattle.money.specs.Money.{WithinSum, money_of_sum};
 ghost use Rattle.money.specs.declared.Money.TheVariants.{O};
-ghost use Rattle.model.specs.Shipment.{most_rows, worth};
+ghost use Rattle.model.specs.Shipment.{most_rows};
 ghost use Rattle.model.specs.Calls.{Return, waiting, is_zpr_with_o, returned_by, acted};
 ghost use Rattle.model.specs.declared.Route.{Route};
-ghost use Rattle.memory.specs.Layout.{size, row_bytes};
-ghost use Rattle.memory.specs.Rows.{row_of};
-ghost use Rattle.memory.specs.Read.{rows_from, shipment_at, Sits};
+ghost use Rattle.memory.specs.Layout.{IsMemory};
+ghost use Rattle.memory.specs.Lent.{shipment_of};
+ghost use Rattle.memory.specs.Read.{shipment_at, Sits};
 ghost use Rattle.memory.specs.Inner.Returns.{WaitTable, IsWaitTable};
 ghost use Rattle.acts.specs.Answers.{returning_of};
 ghost use Rattle.acts.specs.Inner.Place.{ActAt};
@@ -16,9 +16,10 @@ ghost use Rattle.acts.specs.Inner.Waits.{worth_waiting, fees_wait_in_vain, waits
 use crate::answer::Returned;
 use crate::refusal::Refusal;
 use crate::surplus::surplus_at;
-use memory::head::{head_bytes, is_paired, orders, terms};
+use memory::Memory;
 use memory::place::Place;
-use memory::row::{amount, code, fee};
+use memory::rows::Rows;
+use memory::shipment::LentShipment;
 use memory::wait::{store_return, wait_of, wait_table};
 use model::Route;
 use money::{Money, Sum};
@@ -60,14 +61,14 @@ fn return_at(
     ensures acts { ActAt memory.old place.head place.row (returned_by route money) (returning_of money result) memory.new }
     ensures of_money { IfOk result (λ returned. money_of_sum returned.sum ≡ money) }
 {
-    let head = head_bytes(memory, place.head);
-    if !is_paired(head) {
+    let shipment = LentShipment::at(memory, place);
+    if !shipment.head.is_paired() {
         return Err(Refusal::NotPaired);
     }
     if is_zpr_with_o(route, money) {
         return Err(Refusal::UndeliveredFee);
     }
-    if waits_in_vain(memory, place, route, money) {
+    if waits_in_vain(&shipment, route, money) {
         return Err(Refusal::NothingToReturn);
     }
     let waits = clear(memory, place, route, money);
@@ -85,34 +86,29 @@ fn is_zpr_with_o(route: Route, money: Money) -> bool
 }
 
 // Is what waits of a money on a route 0, though orders may wait? Never in K, since no amount is 0.
-fn waits_in_vain(memory: &[u8], place: Place, route: Route, money: Money) -> bool
-    requires { Sits memory.now place.head place.row }
-    ensures { result ≡ waits_in_vain route money (shipment_at memory.now place.head place.row) }
+fn waits_in_vain(shipment: &LentShipment, route: Route, money: Money) -> bool
+    ensures { result ≡ waits_in_vain route money (shipment_of shipment.now) }
 {
-    money == Money::O && fees_wait_in_vain(memory, place, route)
+    money == Money::O && fees_wait_in_vain(shipment, route)
 }
 
 // Is it so in O? No fee is below the flat part, so that what waits is added up beforehand only where that is 0.
-fn fees_wait_in_vain(memory: &[u8], place: Place, route: Route) -> bool
-    requires { Sits memory.now place.head place.row }
-    ensures { result ≡ fees_wait_in_vain route (shipment_at memory.now place.head place.row) }
+#[tactic(auto, using(crate::proofs::Returns::none_in_vain, crate::proofs::Returns::sum_in_vain))]
+fn fees_wait_in_vain(shipment: &LentShipment, route: Route) -> bool
+    ensures { result ≡ fees_wait_in_vain route (shipment_of shipment.now) }
 {
-    let head = head_bytes(memory, place.head);
-    let terms = terms(head);
-    terms.flat.0 == 0 && fees_waiting(memory, place.row, orders(head) as usize, route) == 0
+    shipment.head.terms().flat.0 == 0 && fees_waiting(&shipment.rows, route) == 0
 }
 
-// The fees that wait on a route in the n rows from the k-th on, each as often as its wait adds to the byte of state.
-fn fees_waiting(memory: &[u8], k: usize, n: usize, route: Route) -> u64
-    requires { (k + n ≤ most_rows) × (size ≤ length memory.now) }
-    ensures { result ≡ worth_waiting route O (rows_from memory.now k n) * 2 }
+// The fees that wait on a route in some rows, each as often as its wait adds to the byte of state.
+fn fees_waiting(rows: &Rows, route: Route) -> u64
+    ensures { result ≡ worth_waiting route O rows.now * 2 }
 {
     let table = wait_table(route, Money::O);
     let mut sum = 0;
-    // Kept: 3c: a row lies in columns, so there is no slice of rows to walk.
-    for past in 0..n {
-        let code = code(memory, k + past);
-        sum += fee(memory, k + past).0 * table[code as usize] as u64;
+    for row in rows {
+        let code = row.code().0;
+        sum += row.fee().0 * table[code as usize] as u64;
     }
     sum
 }
@@ -123,11 +119,9 @@ fn clear(memory: &mut [u8], place: Place, route: Route, money: Money) -> Returne
     requires { Sits memory.old place.head place.row × WithinSum (waiting route money (shipment_at memory.old place.head place.row)) }
     ensures { Cleared route money place.head place.row memory.old memory.new result }
 {
-    let head = head_bytes(memory, place.head);
-    let n = orders(head) as usize;
+    let n = LentShipment::at(memory, place).rows.len();
     let table = wait_table(route, money);
     let mut taken = Taken { worth: 0, count: 0 };
-    // Kept: 3c: a row lies in columns, so there is no slice of rows to walk.
     for done in 0..n {
         taken = clear_row(memory, place.row + done, taken, money, &table);
     }
@@ -139,24 +133,12 @@ fn clear(memory: &mut [u8], place: Place, route: Route, money: Money) -> Returne
 
 // Takes out of row k the wait that a table of waits of a money says of it. What it took is counted, and as often the order's worth is added.
 fn clear_row(memory: &mut [u8], k: usize, taken: Taken, money: Money, table: &[u8]) -> Taken
-    requires { (k < most_rows) × (size ≤ length memory.old) × IsWaitTable table.now × (taken.worth < 2 ^ 60) × (taken.count < 2 ^ 60) }
+    requires { (k < most_rows) × IsMemory memory.old × IsWaitTable table.now × (taken.worth < 2 ^ 60) × (taken.count < 2 ^ 60) }
     ensures { ((route : Route) → WaitTable route money table.now → RowCleared route money k taken memory.old memory.new result) × (result.worth < taken.worth + 2 ^ 34) × (result.count ≤ taken.count + 2) }
 {
-    let worth = worth_of(memory, k, money);
+    let worth = Memory::lent(memory).row(k).worth(money);
     let took = store_return(memory, k, table);
     let sum = taken.worth + worth * took;
     let count = taken.count + took;
     Taken { worth: sum, count }
-}
-
-// What the order of row k is worth, in grosze: its amount in K, its fee in O.
-fn worth_of(memory: &[u8], k: usize, money: Money) -> u64
-    requires { (k < most_rows) × (size ≤ length memory.now) }
-    ensures { (result ≡ worth money (row_of (row_bytes memory.now k))) × (result < 2 ^ 32) }
-{
-    // Kept: 7a: amounts and fees are two columns of two types, and here one is chosen by the money.
-    match money {
-        Money::K => amount(memory, k).0,
-        Money::O => fee(memory, k).0,
-    }
 }

@@ -1,11 +1,10 @@
 // What a call does to a shipment as a whole: a transfer, a go-ahead, pairing, closing.
-ghost use Rattle.std.specs.Prelude.{◌≡◌, not, ◌||◌, ◌+◌, ◌≤◌, ltb, length};
+ghost use Rattle.std.specs.Prelude.{◌≡◌, not, ◌||◌, ltb};
 ghost use Rattle.money.specs.Money.{WithinSum, grosze_in, money_of_sum};
-ghost use Rattle.model.specs.Shipment.{most_rows, any_faulty};
+ghost use Rattle.model.specs.Shipment.{any_faulty};
 ghost use Rattle.model.specs.Calls.{transferred, gone_ahead, paired, closed};
-ghost use Rattle.memory.specs.Layout.{size, IsHead};
 ghost use Rattle.memory.specs.Heads.{go_ahead_in};
-ghost use Rattle.memory.specs.Read.{rows_from, Sits};
+ghost use Rattle.memory.specs.Read.{Sits};
 ghost use Rattle.acts.specs.Answers.{completion_of, pairing_of};
 ghost use Rattle.acts.specs.Inner.Place.{ActAt};
 ghost use Rattle.acts.specs.Inner.Waiting.{SoundInWaiting};
@@ -13,12 +12,9 @@ ghost use Rattle.acts.specs.Inner.Waiting.{SoundInWaiting};
 use crate::answer::Pairing;
 use crate::refusal::Refusal;
 use crate::rows::has_faulty_in;
-use memory::column::{amounts_in, fees_in};
-use memory::head::{
-    accepted, amounts_accepted, fees_accepted, has_go_ahead, head_bytes, is_waiting, orders,
-    store_accepted, store_go_ahead, store_stage,
-};
+use memory::head::{store_accepted, store_go_ahead, store_stage};
 use memory::place::Place;
+use memory::shipment::LentShipment;
 use model::Stage;
 use money::{Amount, Fee, Grosze, Sum};
 
@@ -28,7 +24,7 @@ pub fn transfer_at(memory: &mut [u8], place: Place, sum: Sum) -> Result<(), Refu
     ensures { ActAt memory.old place.head place.row (transferred (money_of_sum sum) (grosze_in sum)) (completion_of result) memory.new }
 {
     let money = sum.money();
-    let before = accepted(head_bytes(memory, place.head), money);
+    let before = LentShipment::at(memory, place).accepted(money);
     let total = before.grosze() + sum.grosze();
     if !Amount::is_sum(total) {
         return Err(Refusal::TotalAccepted);
@@ -43,14 +39,14 @@ pub fn go_ahead_at(memory: &mut [u8], place: Place) -> Result<(), Refusal>
     requires { Sits memory.old place.head place.row }
     ensures { ActAt memory.old place.head place.row gone_ahead (completion_of result) memory.new }
 {
-    let head = head_bytes(memory, place.head);
-    if !is_waiting(head) {
+    let shipment = LentShipment::at(memory, place);
+    if !shipment.head.is_waiting() {
         return Err(Refusal::NotWaiting);
     }
-    if !has_faulty_in(memory, place.row, orders(head) as usize) {
+    if !has_faulty_in(&shipment.rows) {
         return Err(Refusal::NoFaults);
     }
-    if has_go_ahead(head) {
+    if shipment.head.has_go_ahead() {
         return Err(Refusal::SecondGoAhead);
     }
     store_go_ahead(memory, place.head);
@@ -63,16 +59,18 @@ pub fn pair_at(memory: &mut [u8], place: Place) -> Pairing
     requires { Sits memory.old place.head place.row }
     ensures { ActAt memory.old place.head place.row paired (pairing_of result) memory.new }
 {
-    let head = head_bytes(memory, place.head);
-    if !is_waiting(head) {
+    let shipment = LentShipment::at(memory, place);
+    if !shipment.head.is_waiting() {
         return Pairing::from(Refusal::NotWaiting);
     }
-    let n = orders(head) as usize;
-    if !may_pair(head, memory, place.row, n) {
+    if !may_pair(&shipment) {
         return Pairing::from(Refusal::Faults);
     }
-    let amount = amounts_in(memory, place.row, n).less(amounts_accepted(head));
-    let fee = fees_in(memory, place.row, n).less(fees_accepted(head));
+    let amount = shipment
+        .rows
+        .amounts()
+        .less(shipment.head.amounts_accepted());
+    let fee = shipment.rows.fees().less(shipment.head.fees_accepted());
     if is_short(amount, fee) {
         return Pairing::Short(amount, fee);
     }
@@ -86,20 +84,20 @@ pub fn close_at(memory: &mut [u8], place: Place) -> Result<(), Refusal>
     requires { Sits memory.old place.head place.row }
     ensures { ActAt memory.old place.head place.row closed (completion_of result) memory.new }
 {
-    if !is_waiting(head_bytes(memory, place.head)) {
+    if !LentShipment::at(memory, place).head.is_waiting() {
         return Err(Refusal::NotWaiting);
     }
     store_stage(memory, place.head, Stage::Closed);
     Ok(())
 }
 
-// Has the shipment of this head and the n rows from the k-th on a go-ahead, or no faults?
+// Has the shipment a go-ahead, or no faults?
 #[tactic(auto, using(text::proofs::Branches::branches))]
-fn may_pair(head: &[u8], memory: &[u8], k: usize, n: usize) -> bool
-    requires { IsHead head.now × (k + n ≤ most_rows) × (size ≤ length memory.now) × SoundInWaiting (rows_from memory.now k n) }
-    ensures { result ≡ (go_ahead_in head.now || not (any_faulty (rows_from memory.now k n))) }
+fn may_pair(shipment: &LentShipment) -> bool
+    requires { SoundInWaiting shipment.now.rows }
+    ensures { result ≡ (go_ahead_in shipment.now.head || not (any_faulty shipment.now.rows)) }
 {
-    has_go_ahead(head) || !has_faulty_in(memory, k, n)
+    shipment.head.has_go_ahead() || !has_faulty_in(&shipment.rows)
 }
 
 // Is anything missing?

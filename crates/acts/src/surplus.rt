@@ -3,15 +3,16 @@ ghost use Rattle.std.specs.Prelude.{◌≡◌, IfOk};
 ghost use Rattle.money.specs.Money.{sum_of, money_of_sum};
 ghost use Rattle.model.specs.Shipment.{need_once_paired, free};
 ghost use Rattle.model.specs.Calls.{surplus_returned};
-ghost use Rattle.memory.specs.Read.{shipment_at, Sits};
+ghost use Rattle.memory.specs.Lent.{shipment_of};
+ghost use Rattle.memory.specs.Read.{Sits};
 ghost use Rattle.acts.specs.Answers.{returning_of};
 ghost use Rattle.acts.specs.Inner.Place.{ActAt};
 
 use crate::answer::Returned;
 use crate::refusal::Refusal;
-use memory::column::{amounts_in, fees_in};
-use memory::head::{accepted, head_bytes, is_paired, is_waiting, orders, returned, store_returned};
+use memory::head::store_returned;
 use memory::place::Place;
+use memory::shipment::LentShipment;
 use money::{Money, Sum};
 
 // Returns the free money of the shipment at a place.
@@ -20,12 +21,12 @@ pub fn surplus_at(memory: &mut [u8], place: Place, money: Money) -> Result<Retur
     ensures acts { ActAt memory.old place.head place.row (surplus_returned money) (returning_of money result) memory.new }
     ensures of_money { IfOk result (λ returned. money_of_sum returned.sum ≡ money) }
 {
-    let head = head_bytes(memory, place.head);
-    if is_waiting(head) {
+    let shipment = LentShipment::at(memory, place);
+    if shipment.head.is_waiting() {
         return Err(Refusal::StillWaiting);
     }
-    let before = returned(head, money);
-    let sum = free_at(memory, place, money);
+    let before = shipment.returned(money);
+    let sum = free_in(&shipment, money);
     let grosze = sum.grosze();
     if grosze == 0 {
         return Err(Refusal::NothingToReturn);
@@ -34,31 +35,27 @@ pub fn surplus_at(memory: &mut [u8], place: Place, money: Money) -> Result<Retur
     Ok(Returned { sum, count: 0 })
 }
 
-// The free money of the shipment at a place.
-fn free_at(memory: &[u8], place: Place, money: Money) -> Sum
-    requires { Sits memory.now place.head place.row }
-    ensures { result ≡ sum_of money (free money (shipment_at memory.now place.head place.row)) }
+// The free money of a shipment.
+fn free_in(shipment: &LentShipment, money: Money) -> Sum
+    ensures { result ≡ sum_of money (free money (shipment_of shipment.now)) }
 {
-    let head = head_bytes(memory, place.head);
-    let accepted = accepted(head, money);
-    let need = need_at(memory, place, money);
-    let returned = returned(head, money);
+    let accepted = shipment.accepted(money);
+    let need = need_in(shipment, money);
+    let returned = shipment.returned(money);
     Sum::of(money, accepted.grosze() - need.grosze() - returned.grosze())
 }
 
-// What the shipment at a place needs of a money, once Paired.
-fn need_at(memory: &[u8], place: Place, money: Money) -> Sum
-    requires { Sits memory.now place.head place.row }
-    ensures { result ≡ sum_of money (need_once_paired money (shipment_at memory.now place.head place.row)) }
+// What a shipment needs of a money, once Paired.
+#[tactic(auto, using(crate::proofs::SurplusActs::none_needed, crate::proofs::SurplusActs::needed_amounts, crate::proofs::SurplusActs::needed_fees))]
+fn need_in(shipment: &LentShipment, money: Money) -> Sum
+    ensures { result ≡ sum_of money (need_once_paired money (shipment_of shipment.now)) }
 {
-    let head = head_bytes(memory, place.head);
-    if !is_paired(head) {
+    if !shipment.head.is_paired() {
         return Sum::of(money, 0);
     }
-    let n = orders(head) as usize;
     // Kept: 7a: amounts and fees are two columns of two types, and here one is chosen by the money.
     match money {
-        Money::K => Sum::Amounts(amounts_in(memory, place.row, n)),
-        Money::O => Sum::Fees(fees_in(memory, place.row, n)),
+        Money::K => Sum::Amounts(shipment.rows.amounts()),
+        Money::O => Sum::Fees(shipment.rows.fees()),
     }
 }

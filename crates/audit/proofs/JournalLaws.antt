@@ -1,15 +1,18 @@
 -- A journal read in place: what a whole entry has, and one entry behind the other.
 -- Assumes nothing.
-use mathlib.Core.Path.{◌≡◌, ap, ◌∙◌}
+use mathlib.Core.Path.{◌≡◌, refl, sym, ap, ◌∙◌}
 use mathlib.Core.Bool.{true, false}
 use mathlib.Core.List.{List}
-use Prim.Native.Nat.{ℕ, zero, suc, ◌+◌, ◌-◌, ◌<◌, ◌≤◌, min}
+use Prim.Native.Nat.{ℕ, zero, suc, ◌+◌, ◌-◌, ◌<◌, ◌≤◌}
 use native.Mathlib.Omega.{arith}
 use borrow.Author.Tests.{leb-true, leb-false, le-leb, lt-leb, le-ltb, eqb-true, eq-eqb}
 use lib.Dec.{leb, ltb, eqb}
 use lib.ListN.{length, take, drop, length-drop}
 use lib.Seq.{drop-drop}
+use Rattle.std.specs.Prelude.{Option, Some, None}
+use Rattle.std.specs.Option.{IsSome}
 use Rattle.text.proofs.Branches.{and_left, both_ways, either_way}
+use Rattle.audit.specs.Inner.Places.{place_within}
 use Rattle.audit.specs.Journal.{texts_of, texts_start, text_length, text_start, entry_text, entry_length, call_known, entry_fits, entries_fit}
 
 -- a text starts no later than those behind it
@@ -18,20 +21,48 @@ unfolding text_start
 starts_later entry k zero = let same : k + 0 ≡ k = omega arith in rw same (omega arith)
 starts_later entry k (suc n) = let next : k + suc n ≡ suc (k + n) = omega arith in let before = starts_later entry k n in rw next (omega arith)
 
--- text after text: the next starts behind this one, and where this one is not all there, none behind it is
-module _ (entry : List ℕ) (k : ℕ) {at long : ℕ} (at_is : at ≡ text_start entry k) (long_is : long ≡ text_length entry k) where
-  pub next_text : at + long ≡ text_start entry (k + 1)
-  unfolding text_start
-  next_text = let next : k + 1 ≡ suc k = omega arith in rw (next, at_is, long_is)
+-- a place within so many bytes, and one that is not
+pub far_place : (most place : ℕ) → most < place → None ≡ place_within most place
+far_place most place far = rw (lt-leb place most far)
 
-  pub cut_off : {j : ℕ} → k < j → length entry - at < long → length entry + 1 ≡ min (text_start entry j) (length entry + 1)
-  cut_off {j} below short =
+pub near_place : (most place : ℕ) → place ≤ most → Some place ≡ place_within most place
+near_place most place near = rw (le-leb place most near)
+
+never : {A : Type 0} {n : ℕ} → ◌≡◌ {A = Option ℕ} None (Some n) → A
+never same = let apart : ◌≡◌ {A = ℕ} 0 1 = cc in absurd (omega arith)
+
+said_far : (most place : ℕ) → None ≡ place_within most place → most < place
+said_far most place is = either_way (leb place most) (λ near. never (rw near at is)) (λ far. leb-false place most far)
+
+pub said_near : (most place : ℕ) {n : ℕ} → Some n ≡ place_within most place → (place ≤ most) × (n ≡ place)
+said_near most place is =
+    either_way (leb place most)
+    (λ near. (leb-true place most near, let same = rw near at is in cc))
+    (λ far. never (sym (rw far at is)))
+
+-- text after text: the next starts behind this one, and where this one is not all there, none behind it is
+module _ (entry : List ℕ) (k : ℕ) {at : ℕ} {ends : Option ℕ} (at_is : at ≡ text_start entry k) (ends_is : ends ≡ place_within (length entry) (at + text_length entry k)) where
+  next_text : at + text_length entry k ≡ text_start entry (k + 1)
+  unfolding text_start
+  next_text = let next : k + 1 ≡ suc k = omega arith in rw (next, at_is)
+
+  pub next_there : {next : ℕ} → ends ≡ Some next → (next ≡ text_start entry (k + 1)) × (next ≤ length entry)
+  next_there is =
+      let told = said_near (length entry) (at + text_length entry k) (sym is ∙ ends_is) in
+      (told.1 ∙ next_text, omega (arith, told.0, told.1))
+
+  pub cut_off : {j : ℕ} → k < j → ends ≡ None → None ≡ place_within (length entry) (text_start entry j)
+  cut_off {j} below none =
       let later : k + 1 + (j - (k + 1)) ≡ j = omega arith in
-      omega (arith, next_text, rw later at (starts_later entry (k + 1) (j - (k + 1))))
+      let short = said_far (length entry) (at + text_length entry k) (sym none ∙ ends_is) in
+      far_place (length entry) (text_start entry j) (omega (arith, short, next_text, rw later at (starts_later entry (k + 1) (j - (k + 1)))))
 
 pub starts_here : (entry : List ℕ) {at : ℕ} (k j : ℕ) → at ≡ text_start entry k → at ≤ length entry → k ≤ j → j ≤ k
-    → at ≡ min (text_start entry j) (length entry + 1)
-starts_here entry k j at_is within below above = let last : k ≡ j = omega arith in omega (arith, rw last at at_is)
+    → Some at ≡ place_within (length entry) (text_start entry j)
+starts_here entry {at} k j at_is within below above =
+    let last : k ≡ j = omega arith in
+    let start = rw last at at_is in
+    ap (λ (n : ℕ). Some n) start ∙ near_place (length entry) (text_start entry j) (omega (arith, start))
 
 -- behind the last text nothing is added
 all_behind : (entry : List ℕ) (n : ℕ) → text_start entry (texts_of entry + n) ≡ entry_length entry
@@ -60,17 +91,18 @@ module _ (entry : List ℕ) (fits : entry_fits entry ≡ true) where
   unfolding text_start
   fields_there = omega (arith, all_there, starts_within entry 0)
 
-  -- where a text starts, and how long the entry is, as code has it
-  start_there : {at : ℕ} (j : ℕ) → at ≡ min (text_start entry j) (length entry + 1) → at ≡ text_start entry j
-  start_there j is = omega (arith, is, all_there, starts_within entry j)
+  -- how long the entry is, and where a text starts, as code has it
+  pub length_there : {ends : Option ℕ} → ends ≡ place_within (length entry) (entry_length entry) → IsSome ends
+  length_there is = rw is (rw (le-leb (entry_length entry) (length entry) all_there) refl)
 
-  pub text_is : {at long : ℕ} {rest text : List ℕ} (j : ℕ) → at ≡ min (text_start entry j) (length entry + 1) → rest ≡ drop at entry
-      → long ≡ text_length entry j → text ≡ take long rest → text ≡ entry_text entry j
-  text_is j at_is rest_is long_is is =
-      is ∙ (λ i. take (long_is i) ((rest_is ∙ ap (λ at. drop at entry) (start_there j at_is)) i))
+  pub text_there : {starts : Option ℕ} (j : ℕ) → starts ≡ place_within (length entry) (text_start entry j) → IsSome starts
+  text_there j is = rw is (rw (le-leb (text_start entry j) (length entry) (omega (arith, all_there, starts_within entry j))) refl)
 
-  pub exact : {long : ℕ} → long ≡ min (entry_length entry) (length entry + 1) → (long ≡ entry_length entry) × (long ≤ length entry)
-  exact is = (omega (arith, is, all_there), omega (arith, is, all_there))
+  pub text_is : {starts : Option ℕ} {at long : ℕ} {rest text : List ℕ} (j : ℕ) → starts ≡ place_within (length entry) (text_start entry j) → starts ≡ Some at
+      → rest ≡ drop at entry → long ≡ text_length entry j → text ≡ take long rest → text ≡ entry_text entry j
+  text_is j starts_is at_is rest_is long_is is =
+      let start = (said_near (length entry) (text_start entry j) (sym at_is ∙ starts_is)).1 in
+      is ∙ (λ i. take (long_is i) ((rest_is ∙ ap (λ at. drop at entry) start) i))
 
 -- whether an entry is whole, as code asks
 too_short : (entry : List ℕ) → length entry < entry_length entry → false ≡ entry_fits entry
@@ -82,18 +114,15 @@ module _ (entry : List ℕ) where
   unfolding text_start
   no_fields is short = too_short entry (omega (arith, is, starts_within entry 0))
 
-  module _ {long : ℕ} (is : long ≡ min (entry_length entry) (length entry + 1)) where
-    pub no_texts : length entry < long → false ≡ entry_fits entry
-    no_texts short = too_short entry (omega (arith, is))
+  module _ {ends : Option ℕ} (is : ends ≡ place_within (length entry) (entry_length entry)) where
+    pub no_texts : ends ≡ None → false ≡ entry_fits entry
+    no_texts none = too_short entry (said_far (length entry) (entry_length entry) (sym none ∙ is))
 
-    pub then_the_call : long ≤ length entry → call_known entry ≡ entry_fits entry
+    pub then_the_call : {long : ℕ} → ends ≡ Some long → (long ≡ entry_length entry) × (call_known entry ≡ entry_fits entry)
     unfolding entry_fits
-    then_the_call there = rw (le-leb (entry_length entry) (length entry) (omega (arith, is)))
-
-pub length_is : (entry : List ℕ) {many at : ℕ} → many ≡ texts_of entry → at ≡ min (text_start entry many) (length entry + 1)
-    → at ≡ min (entry_length entry) (length entry + 1)
-unfolding entry_length
-length_is entry many_is at_is = rw many_is at at_is
+    then_the_call there =
+        let told = said_near (length entry) (entry_length entry) (sym there ∙ is) in
+        (told.1, rw (le-leb (entry_length entry) (length entry) told.0))
 
 -- an entry that is there ends within the bytes
 pub entry_within : (bytes : List ℕ) {entry : List ℕ} (at n : ℕ) → entry ≡ drop at bytes → at ≤ length bytes → n ≤ length entry
@@ -127,7 +156,10 @@ all_passed bytes at i n within none =
     (λ h. eq-eqb at (length bytes) (omega (arith, behind, eqb-true size 0 h))))
 
 -- by which texts are passed
-pub ruleset text_after_text = (next_text, cut_off, starts_here)
+pub ruleset text_after_text = (next_there, cut_off, starts_here)
+
+-- by which a place is within the bytes
+pub ruleset places = (far_place, near_place)
 
 -- by which entries are passed
 pub ruleset entry_after_entry = (entry_within, entry_short, entry_passed, all_passed)

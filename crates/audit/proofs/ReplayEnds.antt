@@ -9,11 +9,12 @@ use native.Mathlib.Omega.{arith}
 use borrow.Author.Tests.{eqb-true, eq-eqb, leb-true}
 use lib.Dec.{leb, eqb}
 use lib.ListN.{length, drop}
+use Rattle.std.specs.Prelude.{Ok, Err}
 use Rattle.text.proofs.Branches.{and_left, and_right, both_yes, either_way, told}
 use Rattle.memory.specs.Read.{shipments_from, shipments_in, book_in, sound_in, read_book}
 use Rattle.sound.proofs.ReadLaws.{shipments_many}
 use Rattle.book.specs.declared.reply.Reply.{Reply}
-use Rattle.audit.specs.declared.Replaying.TheVariants as replaying
+use Rattle.audit.specs.declared.refusal.NotReplayed.TheVariants.{NotEncoded, TooFewAnswers, NotEmpty}
 use Rattle.audit.specs.Journal.{entries_fit, count_in, journal_fits}
 use Rattle.audit.specs.Replay.{Replayed, empty_in, Replayable, Replays}
 
@@ -46,7 +47,7 @@ otherwise : {A : Type 0} → ◌≡◌ {A = ℕ} 0 1 → A
 otherwise never = absurd (omega arith)
 
 module _ {start journal : List ℕ} {table : List Reply} where
-  pub ends_not_encoded : journal_fits journal ≡ false → Replays start journal table replaying.NotEncoded start table
+  pub ends_not_encoded : journal_fits journal ≡ false → Replays start journal table (Err NotEncoded) start table
   ends_not_encoded why = record {
     not_encoded = λ r. (why, refl, refl);
     too_few = λ r. otherwise (cc);
@@ -55,7 +56,7 @@ module _ {start journal : List ℕ} {table : List Reply} where
   }
 
   module _ (encoded : journal_fits journal ≡ true) where
-    pub ends_too_few : length table < count_in journal → Replays start journal table replaying.TooFewAnswers start table
+    pub ends_too_few : length table < count_in journal → Replays start journal table (Err TooFewAnswers) start table
     ends_too_few why = record {
       not_encoded = λ r. otherwise (cc);
       too_few = λ r. (encoded, why, refl, refl);
@@ -63,7 +64,7 @@ module _ {start journal : List ℕ} {table : List Reply} where
       replayed = λ n r. otherwise (cc);
     }
 
-    pub ends_not_empty : count_in journal ≤ length table → (read_book start ≡ some [] → ⊥) → Replays start journal table replaying.NotEmpty start table
+    pub ends_not_empty : count_in journal ≤ length table → (read_book start ≡ some [] → ⊥) → Replays start journal table (Err NotEmpty) start table
     ends_not_empty enough why = record {
       not_encoded = λ r. otherwise (cc);
       too_few = λ r. otherwise (cc);
@@ -72,7 +73,7 @@ module _ {start journal : List ℕ} {table : List Reply} where
     }
 
   pub ends_replayed : {after : List ℕ} {table' : List Reply} {n : ℕ} → Replayable start journal table n → Replayed start journal table after table'
-      → Replays start journal table (replaying.Replayed n) after table'
+      → Replays start journal table (Ok n) after table'
   ends_replayed {n = n} may all = record {
     not_encoded = λ r. otherwise (cc);
     too_few = λ r. otherwise (cc);

@@ -8,6 +8,7 @@ use mathlib.Core.Option.{Option, some}
 use Prim.Native.Nat.{ℕ, zero, suc, ◌+◌, ◌<◌}
 use native.Mathlib.Omega.{arith}
 use lib.ListN.{length, get_or, drop}
+use Rattle.std.specs.Prelude.{Ok}
 use Rattle.text.proofs.Branches.{either_way}
 use Rattle.money.specs.declared.Money.{Money}
 use Rattle.money.specs.declared.Money.TheVariants.{K, O}
@@ -26,7 +27,6 @@ use Rattle.model.proofs.Conserved.{conserves, accepted_as_answered}
 use Rattle.sheet.specs.declared.division.Division.{Division}
 use Rattle.sheet.specs.Sheet.{Sheet, row_for, no_sheet, sheet_of}
 use Rattle.sheet.specs.Inner.Parts.{division_of}
-use Rattle.sheet.specs.declared.Sheeting.TheVariants.{Filled}
 use Rattle.sheet.specs.declared.SheetRow.{SheetRow}
 use Rattle.sheet.specs.declared.Totals.{Totals}
 use Rattle.sheet.proofs.Answered.{left_as_answered}
@@ -60,11 +60,11 @@ record Fills (book : Book) (table after : List SheetRow) (n : ℕ) : Type 0 wher
   rows : after ≡ map row_for book ++ drop (length book) table
   as_many : length book ≡ n
 
-fills : (book : Book) (table : List SheetRow) (totals : Totals) (n : ℕ) → (sheet_of (some book) table totals).answer ≡ Filled n
+fills : (book : Book) (table : List SheetRow) (totals : Totals) (n : ℕ) → (sheet_of (some book) table totals).answer ≡ Ok n
     → Fills book table (sheet_of (some book) table totals).table n
 unfolding sheet_of
 fills book table totals n =
-    asked_either (λ (x : Sheet). x.answer ≡ Filled n → Fills book table x.table n) _ (no_sheet table totals) _
+    asked_either (λ (x : Sheet). x.answer ≡ Ok n → Fills book table x.table n) _ (no_sheet table totals) _
     (λ number refused. let never : ◌≡◌ {A = ℕ} 0 1 = cc in absurd (omega arith))
     (λ yes filled. record { rows = refl; as_many = cc })
 

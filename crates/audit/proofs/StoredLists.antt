@@ -9,12 +9,12 @@ use native.Mathlib.Omega.{arith}
 use borrow.Author.Tests.{leb-true, leb-false}
 use lib.Dec.{leb}
 use lib.ListN.{length, take, drop}
+use Rattle.std.specs.Prelude.{Result, Ok, Err}
 use Rattle.text.proofs.Branches.{either_way}
 use Rattle.money.specs.declared.Money.{Money}
 use Rattle.epe.specs.declared.ident.Ident.{Ident}
 use Rattle.epe.proofs.QuestionLaws.{asked_either}
 use Rattle.write.specs.Written.{Wrote, leaving, wrote, written_after}
-use Rattle.write.specs.declared.Writing.TheVariants.{Written}
 use Rattle.write.proofs.Answers.{alone_written}
 use Rattle.model.specs.Calls.{Call}
 use Rattle.model.specs.Book.{Book, step}
@@ -26,7 +26,6 @@ use Rattle.memory.specs.Read.{book_in, sound_in, read_book}
 use Rattle.book.specs.Does.{Does}
 use Rattle.store.specs.Stored.{stored, stored_into, Storable}
 use Rattle.store.specs.Unstored.{Stores}
-use Rattle.store.specs.declared.load.Loading.TheVariants.{Loaded, Refused}
 use Rattle.store.proofs.Backs.{stored_apart}
 use Rattle.store.proofs.SoundMemory.{long_enough, sound_storable}
 use Rattle.audit.specs.Listed.{Made, event_of, calls_of, AnsweredAsRead}
@@ -54,14 +53,14 @@ front : (a b : List ℕ) → take (length a) (a ++ b) ≡ a
 front [] b = refl
 front (x ∷ a) b = ap (λ (l : List ℕ). x ∷ l) (front a b)
 
-store_answers : (text output : List ℕ) (n : ℕ) (after : List ℕ) → record { answer = Written n; output = after } ≡ written_after [] text output → text ≡ take n after
+store_answers : (text output : List ℕ) (n : ℕ) (after : List ℕ) → record { answer = Ok n; output = after } ≡ written_after [] text output → text ≡ take n after
 unfolding written_after
 store_answers text output n after =
-    asked_either (λ (x : Wrote). record { answer = Written n; output = after } ≡ x → text ≡ take n after) _ (leaving output) (wrote text output)
+    asked_either (λ (x : Wrote). record { answer = Ok n; output = after } ≡ x → text ≡ take n after) _ (leaving output) (wrote text output)
     (λ number refused. let told = ap (λ (x : Wrote). x.answer) refused in let never : ◌≡◌ {A = ℕ} 0 1 = cc in absurd (omega arith))
     (λ yes accepted. by accepted)
   where
-    by : record { answer = Written n; output = after } ≡ wrote text output → text ≡ take n after
+    by : record { answer = Ok n; output = after } ≡ wrote text output → text ≡ take n after
     by accepted =
         let told = ap (λ (x : Wrote). x.answer) accepted in
         let long : n ≡ length text = cc in
@@ -78,7 +77,7 @@ reloaded_holds {book} {before} {after} held pair =
     (λ enough. (pair.load_accepted.loaded book stores (leb-true size (length pair.lent) enough)).1)
     (λ short. absurd (otherwise (pair.load_accepted.too_short book stores (leb-false size (length pair.lent) short))))
   where
-    otherwise : Loaded ≡ Refused 30 → ⊥
+    otherwise : ◌≡◌ {A = Result (Unit {0}) ℕ} (Ok tt) (Err 30) → ⊥
     otherwise h = let never : ◌≡◌ {A = ℕ} 0 1 = cc in absurd (omega arith)
 
 -- and there is such a pair of every book in memory: stored into an output that is long enough, and loaded over itself

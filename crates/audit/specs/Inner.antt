@@ -1,2 +1,3 @@
 -- What a buyer need not read.
 pub mod Entries
+pub mod Places

@@ -1,13 +1,13 @@
 -- A journal replayed: every call of it made in lent memory, and every answer told in a lent table, a reply to a call.
-use Rattle.std.specs.Prelude.{◌≡◌, Bool, true, false, ◌&&◌, List, [], ◌∷◌, ◌++◌, ℕ, ◌≤◌, ◌<◌, eqb, length, drop}
+use Rattle.std.specs.Prelude.{◌≡◌, Bool, true, false, ◌&&◌, List, [], ◌∷◌, ◌++◌, ℕ, ◌≤◌, ◌<◌, eqb, length, drop, Result, Ok, Err}
 use Rattle.std.proofs.Math.Option.{some}
 use Rattle.memory.specs.Read.{shipments_in, sound_in, read_book}
 use Rattle.book.specs.Reply.{reply_of}
 use Rattle.book.specs.declared.reply.Reply.{Reply}
 use Rattle.audit.specs.Listed.{Made, Chain, memory_at, calls_of, Listed}
 use Rattle.audit.specs.Journal.{count_in, journal_fits, calls_in}
-use Rattle.audit.specs.declared.Replaying.{Replaying}
-use Rattle.audit.specs.declared.Replaying.TheVariants as replaying
+use Rattle.audit.specs.declared.refusal.NotReplayed.{NotReplayed}
+use Rattle.audit.specs.declared.refusal.NotReplayed.TheVariants.{NotEncoded, TooFewAnswers, NotEmpty}
 
 abbrev pub all_replies : List Made → List Reply
 all_replies [] = []
@@ -35,9 +35,9 @@ pub record Replayable (start journal : List ℕ) (table : List Reply) (n : ℕ) 
   pub empty : read_book start ≡ some []
 
 -- How a replay ends: every call was made, or none, and then nothing was written.
-pub record Replays (start journal : List ℕ) (table : List Reply) (r : Replaying) (after : List ℕ) (table' : List Reply) : Type 0 where
-  pub not_encoded : r ≡ replaying.NotEncoded → (journal_fits journal ≡ false) × (after ≡ start) × (table' ≡ table)
-  pub too_few : r ≡ replaying.TooFewAnswers → (journal_fits journal ≡ true) × (length table < count_in journal) × (after ≡ start) × (table' ≡ table)
-  pub not_empty : r ≡ replaying.NotEmpty
+pub record Replays (start journal : List ℕ) (table : List Reply) (r : Result ℕ NotReplayed) (after : List ℕ) (table' : List Reply) : Type 0 where
+  pub not_encoded : r ≡ Err NotEncoded → (journal_fits journal ≡ false) × (after ≡ start) × (table' ≡ table)
+  pub too_few : r ≡ Err TooFewAnswers → (journal_fits journal ≡ true) × (length table < count_in journal) × (after ≡ start) × (table' ≡ table)
+  pub not_empty : r ≡ Err NotEmpty
       → (journal_fits journal ≡ true) × (count_in journal ≤ length table) × (read_book start ≡ some [] → ⊥) × (after ≡ start) × (table' ≡ table)
-  pub replayed : (n : ℕ) → r ≡ replaying.Replayed n → Replayable start journal table n × Replayed start journal table after table'
+  pub replayed : (n : ℕ) → r ≡ Ok n → Replayable start journal table n × Replayed start journal table after table'

@@ -1,7 +1,7 @@
 -- The sheet and demand 3 over the same bytes: each row of the sheet says of its shipment what demand 3 counts.
 --
 -- "The sheet fills a lent table, one row per shipment: identifier; accepted, held, free, left, for K and for O."
-use Rattle.std.specs.Prelude.{◌≡◌, List, [], ℕ, ◌+◌, ◌<◌, get_or}
+use Rattle.std.specs.Prelude.{◌≡◌, List, [], ℕ, ◌+◌, ◌<◌, get_or, Ok}
 use Rattle.std.proofs.Math.Option.{some}
 use Rattle.money.specs.declared.Money.{Money}
 use Rattle.money.specs.declared.Money.TheVariants.{K, O}
@@ -11,7 +11,6 @@ use Rattle.model.specs.Demand.{Event, accepted_for, left_for, held_in, free_in}
 use Rattle.memory.specs.Read.{read_book}
 use Rattle.sheet.specs.Sheet.{Sheet, sheet_of}
 use Rattle.sheet.specs.declared.division.Division.{Division}
-use Rattle.sheet.specs.declared.Sheeting.TheVariants.{Filled}
 use Rattle.sheet.specs.declared.SheetRow.{SheetRow}
 use Rattle.sheet.specs.declared.Totals.{Totals}
 use Rattle.audit.specs.Listed.{Made, Chain, memory_at, made_between, book_in_bytes}
@@ -41,6 +40,6 @@ pub record RowAsAnswered (money : Money) (row : SheetRow) (book : Book) (answere
 abbrev pub SheetAsAnswered : Type 0
 SheetAsAnswered = (start : List ℕ) (made : List Made) → read_book start ≡ some [] → Chain start made
     → (p : ℕ) (table : List SheetRow) (totals : Totals) (sheet : Sheet) → sheet ≡ sheet_of (read_book (memory_at start made p)) table totals
-    → (n i : ℕ) → sheet.answer ≡ Filled n → i < n
+    → (n i : ℕ) → sheet.answer ≡ Ok n → i < n
     → (money : Money) (outside : SheetRow)
     → RowAsAnswered money (get_or sheet.table i outside) (book_in_bytes (memory_at start made p)) (made_between made 0 p)

@@ -2,11 +2,10 @@
 --
 -- "A list of calls with an accepted store and an accepted load of its bytes into any memory, back to back, anywhere in it moves money as the list
 -- without them." (document 02, A4)
-use Rattle.std.specs.Prelude.{◌≡◌, List, [], ◌∷◌, map, ℕ, zero, suc, ◌+◌, ◌≤◌, length, take, drop}
+use Rattle.std.specs.Prelude.{◌≡◌, List, [], ◌∷◌, map, ℕ, zero, suc, ◌+◌, ◌≤◌, length, take, drop, Ok}
 use Rattle.std.proofs.Math.Option.{some}
 use Rattle.money.specs.declared.Money.{Money}
 use Rattle.epe.specs.declared.ident.Ident.{Ident}
-use Rattle.write.specs.declared.Writing.TheVariants.{Written}
 use Rattle.model.specs.Shipment.{only_if, sum_over}
 use Rattle.model.specs.Book.{Book, find}
 use Rattle.model.specs.Sound.{AllDivided}
@@ -15,7 +14,6 @@ use Rattle.memory.specs.Read.{read_book}
 use Rattle.book.specs.Does.{Does}
 use Rattle.store.specs.Stored.{stored_into}
 use Rattle.store.specs.Unstored.{Loads}
-use Rattle.store.specs.declared.load.Loading.TheVariants.{Loaded}
 use Rattle.audit.specs.Listed.{Made, Chain, memory_at, event_of, calls_of, book_in_bytes, leaves_bytes, AtMade, AnsweredAsRead}
 
 -- An accepted store of the book in memory, and an accepted load of its bytes into any memory, the same or another: what was lent to store, how many bytes
@@ -25,8 +23,8 @@ pub record Reloaded (before after : List ℕ) : Type 0 where
   pub n : ℕ
   pub stored : List ℕ
   pub lent : List ℕ
-  pub store_accepted : record { answer = Written n; output = stored } ≡ stored_into (read_book before) output
-  pub load_accepted : Loads lent (take n stored) Loaded after
+  pub store_accepted : record { answer = Ok n; output = stored } ≡ stored_into (read_book before) output
+  pub load_accepted : Loads lent (take n stored) (Ok tt) after
 
 -- One of the list: a call that was made, or a store and a load back to back, with the memory that they left.
 pub data Link : Type 0 where

@@ -1,7 +1,8 @@
 // A journal of calls, read in place.
-ghost use Rattle.std.specs.Prelude.{◌≡◌, true, ◌+◌, ◌≤◌, ◌<◌, min, length, Some, None};
+ghost use Rattle.std.specs.Prelude.{◌≡◌, true, ◌+◌, ◌≤◌, ◌<◌, length};
 ghost use Rattle.epe.specs.Profile.{as_fees, fees_fit};
-ghost use Rattle.audit.specs.Journal.{texts_start, entry_fits, entries_fit, journal_fits, numbers_taken, texts_taken};
+ghost use Rattle.audit.specs.Inner.Places.{IsEnd};
+ghost use Rattle.audit.specs.Journal.{texts_start, entry_length, entry_fits, entries_fit, journal_fits, numbers_taken, texts_taken};
 
 use book::numbers::are_known;
 use calendar::date::Date;
@@ -20,6 +21,7 @@ pub struct Head<'a> {
 impl<'a> Head<'a> {
     ghost use Rattle.audit.specs.Journal.{call_byte, numbers_of, texts_of, entry_number, lengths_start, text_length, text_start, fees_in, rates_in, profile_in, entry_length, is_call, has_no_more, call_known};
     ghost use Rattle.audit.specs.Inner.Entries.{IsHead};
+    ghost use Rattle.audit.specs.Inner.Places.{place_within};
 
     // The head of an entry at the start of bytes, if it is there.
     fn of(bytes: &'a [u8]) -> Option<Head<'a>>
@@ -37,6 +39,7 @@ impl<'a> Head<'a> {
     }
 
     // The byte that says which call it is.
+    // Kept: 1d: the calls are numbers in a journal, each named once, where it is made (play.rt): an enum would need a match from the numbers to it, and then the same match over it.
     pub fn call(&self) -> u8
         ensures { result ≡ call_byte self.now.bytes.now }
     {
@@ -44,6 +47,7 @@ impl<'a> Head<'a> {
     }
 
     // The number at a place, 0 where the entry has none.
+    // Kept: 1f: by a journal's form a number that an entry does not have is 0.
     #[tactic(auto, using(text::proofs::Branches::branches), unfolding(crate::specs::Journal::entry_number))]
     pub fn number(&self, k: usize) -> u64
         ensures { result ≡ entry_number self.now.bytes.now k }
@@ -55,6 +59,7 @@ impl<'a> Head<'a> {
     }
 
     // The numbers that stand for the five flat parts of the profile.
+    // Kept: 6d: they may be too large for fees, which is asked of them next.
     pub fn fees(&self) -> [u64; 5]
         ensures { result ≡ fees_in self.now.bytes.now }
     {
@@ -74,32 +79,41 @@ impl<'a> Head<'a> {
         }
     }
 
-    // How long the entry is, or more than there is where it is not all there.
-    #[tactic(auto, using(crate::proofs::JournalLaws::length_is))]
-    fn length(&self) -> usize
-        ensures { result ≡ min (entry_length self.now.bytes.now) (length self.now.bytes.now + 1) }
+    // How long the entry is, if the bytes go so far.
+    #[tactic(auto, unfolding(crate::specs::Journal::entry_length))]
+    fn length(&self) -> Option<usize>
+        ensures { result ≡ place_within (length self.now.bytes.now) (entry_length self.now.bytes.now) }
     {
         self.text_start(self.texts())
     }
 
-    // Where the text at a place starts, or behind the bytes where the texts before it are not there. A length may be any number, so that each is held
-    // against what is left.
+    // Where the text at a place starts, if the bytes go so far.
     #[tactic(auto, using(crate::proofs::JournalLaws::text_after_text), unfolding(crate::specs::Journal::text_start))]
-    fn text_start(&self, j: usize) -> usize
-        ensures { result ≡ min (text_start self.now.bytes.now j) (length self.now.bytes.now + 1) }
+    fn text_start(&self, j: usize) -> Option<usize>
+        ensures { result ≡ place_within (length self.now.bytes.now) (text_start self.now.bytes.now j) }
     {
         let mut at = self.lengths_start() + 8 * self.texts();
         for k in 0..j {
-            let long = self.text_length(k);
-            if ((self.bytes.len() - at) as u64) < long {
-                return self.bytes.len() + 1;
-            }
-            at += long as usize;
+            at = self.text_end(k, at)?;
         }
-        at
+        Some(at)
+    }
+
+    // Where the text ends that starts there, if the bytes go so far. A length may be any number, so that it is held against what is left.
+    #[tactic(auto, using(crate::proofs::JournalLaws::places))]
+    fn text_end(&self, j: usize, start: usize) -> Option<usize>
+        requires { start ≤ length self.now.bytes.now }
+        ensures { result ≡ place_within (length self.now.bytes.now) (start + text_length self.now.bytes.now j) }
+    {
+        let long = self.text_length(j);
+        if ((self.bytes.len() - start) as u64) < long {
+            return None;
+        }
+        Some(start + long as usize)
     }
 
     // How long the text at a place is, 0 where the entry has none.
+    // Kept: 1f: by a journal's form a text that an entry does not have is empty.
     #[tactic(auto, using(text::proofs::Branches::branches), unfolding(crate::specs::Journal::text_length))]
     fn text_length(&self, j: usize) -> u64
         ensures { result ≡ text_length self.now.bytes.now j }
@@ -171,7 +185,9 @@ impl<'a> Head<'a> {
 #[derive(Clone, Copy, Drop)]
 pub struct Entry<'a> {
     pub head: Head<'a>,
+    length: usize,
     ghost whole: { entry_fits head.bytes.now ≡ true },
+    ghost ends: { length ≡ entry_length head.bytes.now },
 }
 
 impl<'a> Entry<'a> {
@@ -184,41 +200,40 @@ impl<'a> Entry<'a> {
         ensures { IsEntry bytes.now result }
     {
         let head = Head::of(bytes)?;
-        if bytes.len() < head.length() {
-            return None;
-        }
+        let length = head.length()?;
         if !head.is_call_known() {
             return None;
         }
-        Some(Entry { head })
+        Some(Entry { head, length })
     }
 
     // The entry at the start of bytes, which is known to be whole.
-    #[tactic(auto, using(crate::proofs::JournalLaws::fields_there))]
+    #[tactic(auto, using(crate::proofs::JournalLaws::fields_there, crate::proofs::JournalLaws::length_there, crate::proofs::JournalLaws::said_near))]
     pub fn at_start(bytes: &'a [u8]) -> Entry<'a>
         requires { entry_fits bytes.now ≡ true }
         ensures { result.head.bytes.now ≡ bytes.now }
     {
-        Entry {
-            head: Head { bytes },
-        }
+        let head = Head { bytes };
+        let length = head.length().unwrap();
+        Entry { head, length }
     }
 
     // How long it is.
-    #[tactic(auto, using(crate::proofs::JournalLaws::exact))]
+    #[tactic(auto, using(crate::proofs::JournalLaws::all_there))]
     pub fn length(&self) -> usize
         ensures value { result ≡ entry_length self.now.head.bytes.now }
         ensures within { result ≤ length self.now.head.bytes.now }
     {
-        self.head.length()
+        self.length
     }
 
     // The text at a place, empty where it has none.
-    #[tactic(auto, using(crate::proofs::JournalLaws::text_is))]
+    // Kept: 1f: by a journal's form a text that an entry does not have is empty.
+    #[tactic(auto, using(crate::proofs::JournalLaws::text_there, crate::proofs::JournalLaws::text_is))]
     pub fn text(&self, j: usize) -> &'a [u8]
         ensures { result.now ≡ entry_text self.now.head.bytes.now j }
     {
-        let at = self.head.text_start(j);
+        let at = self.head.text_start(j).unwrap();
         first(rest(self.head.bytes, at), self.head.text_length(j) as usize)
     }
 }
@@ -232,21 +247,26 @@ pub fn does_journal_fit(journal: &[u8]) -> bool
 }
 
 // Are the bytes n whole entries, and nothing else?
-#[tactic(auto, using(crate::proofs::JournalLaws::entry_after_entry))]
 fn do_entries_fit(bytes: &[u8], n: u64) -> bool
     ensures { result ≡ entries_fit n bytes.now }
 {
+    entries_end(bytes, n) == Some(bytes.len())
+}
+
+// Where n whole entries end, if they are there.
+#[tactic(auto, using(crate::proofs::JournalLaws::entry_after_entry))]
+fn entries_end(bytes: &[u8], n: u64) -> Option<usize>
+    ensures { IsEnd bytes.now n result }
+{
     let mut at = 0;
     for i in 0..n {
-        let Some(entry) = Entry::of(rest(bytes, at)) else {
-            return false;
-        };
-        at += entry.length();
+        at += Entry::of(rest(bytes, at))?.length();
     }
-    at == bytes.len()
+    Some(at)
 }
 
 // How many numbers a call takes.
+// Kept: 1d, 4c: the calls are numbers in a journal, each named once, where it is made (play.rt): an enum would need a match from the numbers to it, and then the same match over it.
 #[tactic(auto, using(text::proofs::Branches::branches), unfolding(crate::specs::Journal::numbers_taken))]
 fn numbers_taken(call: u8) -> usize
     ensures { result ≡ numbers_taken call }
@@ -261,6 +281,7 @@ fn numbers_taken(call: u8) -> usize
 }
 
 // How many texts a call takes.
+// Kept: 1d, 7c: the calls are numbers in a journal, each named once, where it is made (play.rt): an enum would need a match from the numbers to it, and then the same match over it.
 #[tactic(auto, using(text::proofs::Branches::branches), unfolding(crate::specs::Journal::texts_taken))]
 fn texts_taken(call: u8) -> usize
     ensures { result ≡ texts_taken call }

@@ -17,6 +17,7 @@ use epe::refusal::Refusal;
 pub fn play(memory: &mut [u8], entry: &Entry) -> Reply
     ensures { Plays memory.old (call_in entry.now.head.bytes.now) result memory.new }
 {
+    // Kept: 7a: each call of a journal is another call of the book.
     match entry.head.call() {
         0 => play_intake(memory, entry),
         1 => play_transfer(memory, entry),
@@ -50,6 +51,7 @@ fn play_act(memory: &mut [u8], entry: &Entry) -> Reply
     ensures { Plays memory.old (On (ident_of (entry_text entry.now.head.bytes.now 0)) (act_in entry.now.head.bytes.now)) result memory.new }
 {
     let id = entry.text(0);
+    // Kept: 7a: each call of a journal is another call of the book.
     match entry.head.call() {
         2 => told::go_ahead(memory, id),
         3 => told::pair(memory, id),
@@ -70,6 +72,7 @@ fn play_on_order(memory: &mut [u8], entry: &Entry, id: &[u8]) -> Reply
     ensures { Plays memory.old (On (ident_of (entry_text entry.now.head.bytes.now 0)) (act_in entry.now.head.bytes.now)) result memory.new }
 {
     let number = entry.head.number(0);
+    // Kept: 7a: each call of a journal is another call of the book.
     match entry.head.call() {
         5 => told::post(memory, id, number),
         6 => told::pay(memory, id, number),

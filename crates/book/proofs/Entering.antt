@@ -23,7 +23,7 @@ use Rattle.memory.specs.Inner.Enter.{Enterable, OrderEntered, HeadEntered}
 use Rattle.memory.proofs.Parts.{number_heads, number_rows}
 use Rattle.memory.proofs.Frames.{heads_kept, rows_kept}
 use Rattle.acts.specs.Inner.Place.{RowsStored}
-use Rattle.acts.proofs.RowsInTurn.{one_more_stored}
+use Rattle.acts.proofs.RowsInTurn.{none_stored, one_more_stored}
 use Rattle.book.specs.Inner.Entering.{kept_row, Fits, ShipmentEntered}
 use Rattle.book.proofs.Appending.{appended, flags_alike}
 
@@ -125,3 +125,5 @@ module _ (m m₁ m₂ : List ℕ) (i k : ℕ) (name : Name) (terms : Terms) (n :
     where
       from_is : k ≡ rows_in (shipments_from m 0 0 i)
       from_is = fits.from ∙ ap (λ n. rows_in (shipments_from m 0 0 n)) (sym fits.last)
+
+pub ruleset enters = (kept_enterable, one_more_entered, none_stored)

@@ -278,3 +278,11 @@ module _ (m : List ℕ) (profile : Profile) (name file : List ℕ) where
             (contents_next held passed (unknown_test ∙ ap not new)
             ∙ ap (λ (n : Name). entered_in (contents_questions profile file) (entered profile n (orders file)) (length (orders file)) (faulty_count (orders file)) (book_in m))
             (sym name_is))
+
+pub ruleset intakes = (profile_refused, memory_refused)
+
+pub ruleset takes_files = (sound_parts, opening_refused, terms_of_name, name_in_form_lem, known_at, taken_at)
+
+pub ruleset takes_records = (stated_as_set, stated_fit, opened, counted, contents_accepted, records_refused)
+
+pub ruleset enters_behind = (sound_parts, no_shipment_left, no_row_left, fits_behind, entered_behind)

@@ -4,35 +4,32 @@ use mathlib.Core.Path.{◌≡◌, sym, ◌∙◌}
 use mathlib.Core.Bool.{Bool, true, false}
 use mathlib.Core.List.{List}
 use Rattle.std.specs.Prelude.{Ok, Err}
-use Prim.Native.Nat.{ℕ, ◌≤◌, ◌<◌}
-use lib.ListN.{length}
+use Prim.Native.Nat.{ℕ}
 use Rattle.epe.specs.declared.ident.Ident.{Ident}
-use Rattle.model.specs.Shipment.{most_shipments, is_paired}
-use Rattle.memory.specs.Layout.{size, head_bytes}
-use Rattle.memory.specs.Heads.{stage_in}
+use Rattle.model.specs.Shipment.{is_paired}
+use Rattle.model.specs.declared.Row.{Row}
+use Rattle.memory.specs.Heads.{stage_in, shipment_in}
 use Rattle.memory.specs.declared.place.Place.{Place}
 use Rattle.memory.specs.Read.{shipment_at, read_book}
 use Rattle.acts.specs.Refusal.{number_of}
 use Rattle.acts.specs.declared.refusal.Refusal.{Refusal}
 use Rattle.acts.specs.Inner.Place.{called_in, place_in}
-use Rattle.acts.proofs.PlaceInBook.{sits, no_place}
+use Rattle.acts.proofs.PlaceInBook.{no_place}
 use Rattle.acts.proofs.FoundInBook.{none_found, found_at}
 use Rattle.book.specs.NoReturn.{no_return}
 use Rattle.memory.proofs.HeadFields.{paired_is}
 
 module _ (ident : Ident) (m : List ℕ) where
-  pub head_there : {place : Place} → Ok place ≡ place_in (called_in ident) m → (place.head < most_shipments) × (size ≤ length m)
-  head_there placed = let there = sits (called_in ident) placed in (there.few, there.enough)
-
   pub refused_unplaced : {refusal : Refusal} → Err refusal ≡ place_in (called_in ident) m → number_of refusal ≡ no_return ident (read_book m)
   unfolding read_book
   refused_unplaced e =
       no_place (called_in ident) m e (λ same unsound. rw (same, unsound)) (λ same held none. rw (same, held, none_found ident m none))
 
-  module _ {place : Place} (placed : Ok place ≡ place_in (called_in ident) m) {head : List ℕ} (is_head : head ≡ head_bytes m place.head)
+  module _ {place : Place} (placed : Ok place ≡ place_in (called_in ident) m) (head : List ℕ) (rows : List Row)
+      (is : shipment_in head rows ≡ shipment_at m place.head place.row)
       {paired : Bool} (is-paired : paired ≡ is_paired (stage_in head)) where
     stage_is : is_paired (shipment_at m place.head place.row).stage ≡ paired
-    stage_is = sym (is-paired ∙ paired_is m place.head place.row is_head)
+    stage_is = sym (is-paired ∙ paired_is head rows is)
 
     pub refused_paired : paired ≡ true → 22 ≡ no_return ident (read_book m)
     unfolding read_book
@@ -42,4 +39,4 @@ module _ (ident : Ident) (m : List ℕ) where
     unfolding read_book
     refused_not_paired h = let found = found_at ident m placed in rw (found.0, found.1, stage_is ∙ h)
 
-pub ruleset refuses = (head_there, refused_unplaced, refused_paired, refused_not_paired)
+pub ruleset refuses = (refused_unplaced, refused_paired, refused_not_paired)

@@ -12,7 +12,7 @@ ghost use Rattle.contents.specs.Kept.{orders_in};
 ghost use Rattle.model.specs.Shipment.{most_shipments, most_rows};
 ghost use Rattle.model.specs.Calls.{Intake};
 ghost use Rattle.model.specs.Book.{entered_row, new_shipment, entered};
-ghost use Rattle.memory.specs.Layout.{size};
+ghost use Rattle.memory.specs.Layout.{IsMemory};
 ghost use Rattle.memory.specs.Read.{shipments_in, sound_in};
 ghost use Rattle.acts.specs.Inner.Place.{RowsStored};
 ghost use Rattle.book.specs.Acceptance.{acceptance_of};
@@ -31,9 +31,10 @@ use epe::profile::Profile;
 use fee::Terms;
 use memory::enter::{enter_head, enter_order};
 use memory::place::Place;
-use memory::{MOST_ROWS, MOST_SHIPMENTS, shipments, store_shipments};
+use memory::{MOST_ROWS, MOST_SHIPMENTS, Memory, store_shipments};
 
 // Takes in an order file into a sound book.
+#[tactic(auto, using(crate::proofs::IntakeActs::takes_files))]
 pub fn take_file(
     memory: &mut [u8],
     profile: Profile,
@@ -44,8 +45,9 @@ pub fn take_file(
     ensures { Does memory.old (Intake profile name.now file.now) (acceptance_of result) memory.new }
 {
     let parts = open(name, file)?;
-    let i = shipments(memory);
-    if find_called(memory, parts.ident, i).is_some() {
+    let lent = Memory::lent(memory);
+    let i = lent.shipments();
+    if find_called(&lent, parts.ident, i).is_some() {
         return Err(IntakeRefusal::Known);
     }
     take_in(memory, i, profile, parts, file)
@@ -67,6 +69,7 @@ fn take_in(
 }
 
 // Judges the records of a file whose header has passed, and enters it behind the i shipments that there are.
+#[tactic(auto, using(crate::proofs::IntakeActs::takes_records))]
 fn take_records(
     memory: &mut [u8],
     i: usize,
@@ -84,6 +87,7 @@ fn take_records(
 }
 
 // Enters a shipment of the first n orders that a table keeps behind the i that there are, if there is room.
+#[tactic(auto, using(crate::proofs::IntakeActs::enters_behind))]
 fn enter_behind(
     memory: &mut [u8],
     i: usize,
@@ -99,7 +103,7 @@ fn enter_behind(
     if MOST_SHIPMENTS <= i {
         return Err(IntakeRefusal::Shipments);
     }
-    let k = rows_of(memory, i);
+    let k = rows_of(&Memory::lent(memory), i);
     if ((MOST_ROWS - k) as u64) < n {
         return Err(IntakeRefusal::Rows);
     }
@@ -108,6 +112,7 @@ fn enter_behind(
 }
 
 // Enters a shipment of the first n orders that a table keeps at a place.
+#[tactic(auto, using(crate::proofs::Entering::shipment_entered))]
 fn enter(memory: &mut [u8], place: Place, name: Name, terms: Terms, n: u64, kept: &[u64])
     requires { Fits memory.old place.head place.row name terms n kept.now }
     ensures { ShipmentEntered (new_shipment name terms (map (entered_row terms) (orders_in kept.now 0 n))) memory.old memory.new }
@@ -118,8 +123,9 @@ fn enter(memory: &mut [u8], place: Place, name: Name, terms: Terms, n: u64, kept
 }
 
 // Enters the first n orders that a table keeps, in the rows from the k-th on.
+#[tactic(auto, using(crate::proofs::Entering::enters))]
 fn enter_orders(memory: &mut [u8], k: usize, n: usize, terms: Terms, kept: &[u64])
-    requires { (k + n ≤ most_rows) × (size ≤ length memory.old) × TermsFit terms × EachInRange (orders_in kept.now 0 n) × EachCharged terms (orders_in kept.now 0 n) }
+    requires { (k + n ≤ most_rows) × IsMemory memory.old × TermsFit terms × EachInRange (orders_in kept.now 0 n) × EachCharged terms (orders_in kept.now 0 n) }
     ensures { RowsStored (kept_row terms k kept.now) k n memory.old memory.new }
 {
     for done in 0..n {

@@ -33,13 +33,14 @@ use contents::judge::Accepted;
 use epe::ident::Ident;
 use epe::name::{Name, read_title};
 use epe::profile::{Profile, judge_profile};
-use memory::head::{head_bytes, is_paired};
+use memory::shipment::LentShipment;
 use memory::{SIZE, store_shipments};
 use model::{Deed, Route};
 use money::{Amount, Fee, Money, Sum};
 use sound::is_sound;
 
 // Makes an empty book in memory that is long enough, whatever it holds.
+#[tactic(auto, using(crate::proofs::Making::none_made, crate::proofs::Making::made))]
 pub fn make_empty(memory: &mut [u8]) -> Result<(), Refusal>
     ensures { MakesEmpty memory.old (completion_of result) memory.new }
 {
@@ -51,6 +52,7 @@ pub fn make_empty(memory: &mut [u8]) -> Result<(), Refusal>
 }
 
 // Takes in an order file: it is judged before the first byte of the book is written.
+#[tactic(auto, using(crate::proofs::IntakeActs::intakes))]
 pub fn intake(
     memory: &mut [u8],
     profile: Profile,
@@ -164,7 +166,7 @@ pub fn refuse_return(memory: &[u8], ident: Ident) -> Refusal
 {
     match place_called(memory, ident) {
         Ok(place) => {
-            if is_paired(head_bytes(memory, place.head)) {
+            if LentShipment::at(memory, place).head.is_paired() {
                 Refusal::UndeliveredFee
             } else {
                 Refusal::NotPaired

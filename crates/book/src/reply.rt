@@ -35,6 +35,14 @@ impl Told for () {
     }
 }
 
+impl Told for u64 {
+    ghost reply = { λ number. done_with number 0 };
+
+    fn told(self) -> Reply {
+        done(self, 0)
+    }
+}
+
 impl Told for Accepted {
     ghost reply = { λ accepted. done_with accepted.orders accepted.faulty };
 

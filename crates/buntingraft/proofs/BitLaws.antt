@@ -1,9 +1,7 @@
 -- What is said of an extra field is read again in its bits.
 -- Assumes nothing.
 use mathlib.Core.Path.{◌≡◌, refl}
-use mathlib.Core.Bool.{Bool, true, false, cond}
-use Prim.Native.Nat.{ℕ, ◌≤◌}
-use native.Mathlib.Omega.{arith}
+use mathlib.Core.Bool.{Bool, true, false}
 use Rattle.buntingraft.specs.Exports.{bits_of, said_in, BitsSayIt}
 
 pub bits_say_it : BitsSayIt
@@ -19,8 +17,3 @@ bits_say_it said = go said.empty said.fails said.spaced
     go false true false = refl
     go false false true = refl
     go false false false = refl
-
--- a number that stands or falls with a test
-pub at_most : (t : Bool) (n : ℕ) → cond t n 0 ≤ n
-at_most true n = omega arith
-at_most false n = omega arith

@@ -1,3 +1,3 @@
 pub mod Exporting
-pub mod Reporting
+pub mod Telling
 pub mod BitLaws

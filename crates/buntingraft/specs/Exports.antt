@@ -16,14 +16,8 @@ use Rattle.book.specs.Numbers.{are_known, route_of, money_of}
 use Rattle.book.specs.Reply.{reply_of, done_with, refused_with, Plays}
 use Rattle.book.specs.declared.reply.Reply.{Reply}
 use Rattle.write.specs.Written.{Wrote}
-use Rattle.write.specs.declared.Writing.{Writing}
-use Rattle.write.specs.declared.Writing.TheVariants as writing
 use Rattle.store.specs.Unstored.{Loads}
-use Rattle.store.specs.declared.load.Loading.{Loading}
-use Rattle.store.specs.declared.load.Loading.TheVariants as loading
 use Rattle.sheet.specs.Sheet.{sheet_of}
-use Rattle.sheet.specs.declared.Sheeting.{Sheeting}
-use Rattle.sheet.specs.declared.Sheeting.TheVariants.{Filled, Refused}
 use Rattle.sheet.specs.declared.SheetRow.{SheetRow}
 use Rattle.sheet.specs.declared.Totals.{Totals}
 
@@ -38,10 +32,14 @@ pub record Returns (before : List ℕ) (ident : Ident) (route money : ℕ) (repl
   pub plays : are_known route money ≡ true → Plays before (On ident (Return (route_of route) (money_of money))) reply after
   pub refused : are_known route money ≡ false → (reply ≡ refused_with (no_return ident (read_book before))) × (after ≡ before)
 
+-- A call that answers one number, or a refusal by its number.
+abbrev pub reply_to : Result ℕ ℕ → Reply
+reply_to (Ok number) = done_with number 0
+reply_to (Err number) = refused_with number
+
 -- A sheet answers the number of its rows, or a refusal. The table and the totals are as it leaves them.
-unfoldable pub reply_to_sheet : Sheeting → Reply
-reply_to_sheet (Filled rows) = done_with rows 0
-reply_to_sheet (Refused number) = refused_with number
+abbrev pub reply_to_sheet : Result ℕ ℕ → Reply
+reply_to_sheet = reply_to
 
 pub record Sheets (book : List ℕ) (table : List SheetRow) (totals : Totals) (reply : Reply) (table' : List SheetRow) (totals' : Totals) : Type 0 where
   pub is_reply : reply ≡ reply_to_sheet (sheet_of (read_book book) table totals).answer
@@ -49,21 +47,20 @@ pub record Sheets (book : List ℕ) (table : List SheetRow) (totals : Totals) (r
   pub sums : totals' ≡ (sheet_of (read_book book) table totals).totals
 
 -- A writer answers the number of bytes written, or a refusal. The output is as it leaves it.
-unfoldable pub reply_to_writing : Writing → Reply
-reply_to_writing (writing.Written length) = done_with length 0
-reply_to_writing (writing.Refused number) = refused_with number
+abbrev pub reply_to_writing : Result ℕ ℕ → Reply
+reply_to_writing = reply_to
 
 pub record TellsWriting (wrote : Wrote) (reply : Reply) (output : List ℕ) : Type 0 where
   pub is_reply : reply ≡ reply_to_writing wrote.answer
   pub text : output ≡ wrote.output
 
 -- A stored book was loaded, or not, and the answer is told.
-unfoldable pub reply_to_loading : Loading → Reply
-reply_to_loading loading.Loaded = done_with 0 0
-reply_to_loading (loading.Refused number) = refused_with number
+abbrev pub reply_to_loading : Result (Unit {0}) ℕ → Reply
+reply_to_loading (Ok loaded) = done_with 0 0
+reply_to_loading (Err number) = refused_with number
 
 pub record TellsLoading (before stored : List ℕ) (reply : Reply) (after : List ℕ) : Type 0 where
-  pub answer : Loading
+  pub answer : Result (Unit {0}) ℕ
   pub loads : Loads before stored answer after
   pub is_reply : reply ≡ reply_to_loading answer
 

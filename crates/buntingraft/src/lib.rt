@@ -7,7 +7,7 @@ ghost use Rattle.std.specs.Prelude.{◌≡◌, []};
 ghost use Rattle.fee.specs.Total.{amount_for};
 ghost use Rattle.epe.specs.Ident.{ident_of};
 ghost use Rattle.contents.specs.Faults.{said_of};
-ghost use Rattle.contents.specs.Around.{around_of, fault_around};
+ghost use Rattle.contents.specs.Around.{fault_around};
 ghost use Rattle.model.specs.Calls.{GoAhead, Pair, Close, OnOrder, Intake, Transfer, On};
 ghost use Rattle.model.specs.declared.Deed.TheVariants.{Post, Pay, MarkUndelivered, Withdraw};
 ghost use Rattle.memory.specs.Layout.{size};
@@ -18,7 +18,7 @@ ghost use Rattle.write.specs.Written.{written_after};
 ghost use Rattle.report.specs.Rkf.{rkf_written};
 ghost use Rattle.report.specs.Ope.{ope_written};
 ghost use Rattle.store.specs.Stored.{most_stored, stored_into};
-ghost use Rattle.buntingraft.specs.Exports.{reply_to_sheet, Makes, Returns, Sheets, reply_to_writing, TellsWriting, reply_to_loading, TellsLoading, reply_to_total};
+ghost use Rattle.buntingraft.specs.Exports.{Makes, Returns, Sheets, TellsWriting, TellsLoading, reply_to_total};
 ghost use Rattle.buntingraft.specs.Exports.{bits_of, said_in, reply_to_around};
 
 use bits::{bits_of, said_in};
@@ -26,19 +26,17 @@ use book::numbers::{are_known, money_of, route_of};
 use book::reply::{Reply, done, refused, tell};
 use contents::around::judge_around;
 use contents::extra::judge_extra;
-use contents::faults::{Fault, number_of};
+use contents::faults::number_of;
 use epe::ident::ident_of;
 use epe::profile::Profile;
-use epe::refusal::Refusal;
 use fee::total::amount_for;
 use memory::SIZE;
-use money::Amount;
+use money::{Amount, Grosze};
 use report::ope::write_ope;
 use report::rkf::write_rkf;
-use sheet::{SheetRow, Sheeting, Totals};
-use store::load::{Loading, load};
+use sheet::{SheetRow, Totals};
+use store::load::load;
 use store::{MOST_STORED, store};
-use write::Writing;
 use write::grosze::write_money;
 
 // How many bytes a book takes.
@@ -135,6 +133,7 @@ pub extern "C" fn buntingraft_withdraw(book: &mut [u8], id: &[u8], order: u64) -
 }
 
 // Returns money by a route.
+// Kept: 1d: the C interface has both as numbers.
 #[unsafe(no_mangle)]
 pub extern "C" fn buntingraft_return(book: &mut [u8], id: &[u8], route: u64, money: u64) -> Reply
     ensures { Returns book.old (ident_of id.now) route money result book.new }
@@ -147,6 +146,8 @@ pub extern "C" fn buntingraft_return(book: &mut [u8], id: &[u8], route: u64, mon
 }
 
 // Writes RKF, the report on an order file.
+// Kept: 1d: the C interface has a refusal as a number.
+#[tactic(auto, using(crate::proofs::Telling::tells_writing))]
 #[unsafe(no_mangle)]
 pub extern "C" fn buntingraft_write_rkf(
     own: &[u8],
@@ -157,10 +158,12 @@ pub extern "C" fn buntingraft_write_rkf(
 ) -> Reply
     ensures { TellsWriting (rkf_written own.now created source.now refusal output.old) result output.new }
 {
-    tell_writing(write_rkf(own, created, source, refusal, output))
+    tell(write_rkf(own, created, source, refusal, output))
 }
 
 // Writes OPE, the report on the faulty orders of a shipment.
+// Kept: 6d: the C interface lends the codes as numbers.
+#[tactic(auto, using(crate::proofs::Telling::tells_writing))]
 #[unsafe(no_mangle)]
 pub extern "C" fn buntingraft_write_ope(
     book: &[u8],
@@ -172,23 +175,25 @@ pub extern "C" fn buntingraft_write_ope(
 ) -> Reply
     ensures { TellsWriting (ope_written (read_book book.now) (ident_of id.now) own.now created codes.now output.old) result output.new }
 {
-    tell_writing(write_ope(book, id, own, created, codes, output))
+    tell(write_ope(book, id, own, created, codes, output))
 }
 
 // Writes money in its one spelling.
+#[tactic(auto, using(crate::proofs::Telling::tells_writing))]
 #[unsafe(no_mangle)]
 pub extern "C" fn buntingraft_write_money(grosze: u64, output: &mut [u8]) -> Reply
     ensures { TellsWriting (written_after [] (money_text grosze) output.old) result output.new }
 {
-    tell_writing(write_money(grosze, output))
+    tell(write_money(grosze, output))
 }
 
 // Finds the amount that makes a total.
+#[tactic(auto, unfolding(crate::specs::Exports::reply_to_total))]
 #[unsafe(no_mangle)]
 pub extern "C" fn buntingraft_amount_for(flat: u64, rate: u64, total: u64) -> Reply
     ensures { result ≡ reply_to_total (amount_for flat rate total) }
 {
-    tell_total(amount_for(flat, rate, total))
+    tell(amount_for(flat, rate, total).map(|found| found.map_or(0, Amount::grosze)))
 }
 
 // Judges an extra address field.
@@ -200,11 +205,13 @@ pub extern "C" fn buntingraft_judge_extra(extra: &[u8]) -> Reply
 }
 
 // Judges the record around an extra field that was judged before.
+// Kept: 1d: across the C interface what is said is a number.
+#[tactic(auto, unfolding(crate::specs::Exports::reply_to_around))]
 #[unsafe(no_mangle)]
 pub extern "C" fn buntingraft_judge_around(bits: u64, before: &[u8], after: &[u8]) -> Reply
     ensures { result ≡ reply_to_around (fault_around (said_in bits) before.now after.now) }
 {
-    tell_around(judge_around(said_in(bits), before, after))
+    tell(judge_around(said_in(bits), before, after).map(number_of))
 }
 
 // How many bytes a stored book takes at most.
@@ -216,11 +223,12 @@ pub extern "C" fn buntingraft_stored_bytes() -> u64
 }
 
 // Stores the book.
+#[tactic(auto, using(crate::proofs::Telling::tells_writing))]
 #[unsafe(no_mangle)]
 pub extern "C" fn buntingraft_store(book: &[u8], output: &mut [u8]) -> Reply
     ensures { TellsWriting (stored_into (read_book book.now) output.old) result output.new }
 {
-    tell_writing(store(book, output))
+    tell(store(book, output))
 }
 
 // Loads a stored book.
@@ -228,60 +236,7 @@ pub extern "C" fn buntingraft_store(book: &[u8], output: &mut [u8]) -> Reply
 pub extern "C" fn buntingraft_load(book: &mut [u8], stored: &[u8]) -> Reply
     ensures { TellsLoading book.old stored.now result book.new }
 {
-    tell_loading(load(book, stored))
-}
-
-// Which amount makes a total, in three numbers.
-#[tactic(auto, unfolding(crate::specs::Exports::reply_to_total))]
-fn tell_total(found: Result<Option<Amount>, fee::refusal::Refusal>) -> Reply
-    ensures { result ≡ reply_to_total found }
-{
-    match found {
-        Ok(Some(amount)) => done(amount.0, 0),
-        Ok(None) => done(0, 0),
-        Err(refusal) => refused(u64::from(refusal)),
-    }
-}
-
-// What loading says, in three numbers.
-fn tell_loading(loading: Loading) -> Reply
-    ensures { result ≡ reply_to_loading loading }
-{
-    match loading {
-        Loading::Loaded => done(0, 0),
-        Loading::Refused(number) => refused(number),
-    }
-}
-
-// What a writer says, in three numbers.
-fn tell_writing(writing: Writing) -> Reply
-    ensures { result ≡ reply_to_writing writing }
-{
-    match writing {
-        Writing::Written(length) => done(length, 0),
-        Writing::Refused(number) => refused(number),
-    }
-}
-
-// What is said of a record around its extra field, in three numbers.
-#[tactic(auto, unfolding(crate::specs::Exports::reply_to_around))]
-fn tell_around(around: Result<Option<Fault>, Refusal>) -> Reply
-    ensures { result ≡ reply_to_around (around_of around) }
-{
-    match around {
-        Ok(fault) => done(number_of(fault), 0),
-        Err(refusal) => refused(u64::from(refusal)),
-    }
-}
-
-// What a sheet says, in three numbers.
-fn tell_sheet(sheeting: Sheeting) -> Reply
-    ensures { result ≡ reply_to_sheet sheeting }
-{
-    match sheeting {
-        Sheeting::Filled(rows) => done(rows, 0),
-        Sheeting::Refused(number) => refused(number),
-    }
+    tell(load(book, stored))
 }
 
 // Fills the balance sheet, and adds it to the totals.
@@ -293,6 +248,5 @@ pub extern "C" fn buntingraft_sheet(
 ) -> Reply
     ensures { Sheets book.now table.old totals.old result table.new totals.new }
 {
-    let sheeting = sheet::sheet(book, table, totals);
-    tell_sheet(sheeting)
+    tell(sheet::sheet(book, table, totals))
 }

@@ -2,31 +2,24 @@
 #![tactic(auto)]
 
 ghost use Rattle.std.specs.Prelude.{◌≡◌};
-ghost use Rattle.buntingraft_replay.specs.TellsReplay.{not_replayed, reply_to_replay, TellsReplay};
+ghost use Rattle.buntingraft_replay.specs.TellsReplay.{reply_to_replay, TellsReplay};
 
-use audit::Replaying;
+use audit::refusal::NotReplayed;
 use book::reply::{Reply, done};
 
-// A journal, a table or a memory that is not fit for a replay.
-fn not_replayed(number: u64) -> Reply
-    ensures { result ≡ not_replayed number }
-{
-    Reply {
-        status: 3,
-        first: number,
-        second: 0,
-    }
-}
-
-// How a replay ended, in three numbers.
-fn tell_replaying(replaying: Replaying) -> Reply
+// How a replay ended, in three numbers: with so many calls, or before the first of them.
+// Kept: 4c: the C interface has three numbers.
+fn tell_replaying(replaying: Result<u64, NotReplayed>) -> Reply
     ensures { result ≡ reply_to_replay replaying }
 {
+    // Kept: 7a: a Result has two sides, and a replay that was not made has a status of its own.
     match replaying {
-        Replaying::Replayed(calls) => done(calls, 0),
-        Replaying::NotEncoded => not_replayed(1),
-        Replaying::TooFewAnswers => not_replayed(2),
-        Replaying::NotEmpty => not_replayed(3),
+        Ok(calls) => done(calls, 0),
+        Err(refusal) => Reply {
+            status: 3,
+            first: u64::from(refusal),
+            second: 0,
+        },
     }
 }
 

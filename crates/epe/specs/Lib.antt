@@ -1,6 +1,7 @@
 -- In the order in which to read them.
 pub mod Refusal
 pub mod Questions
+pub mod Numbered
 pub mod Ident
 pub mod Name
 pub mod Profile

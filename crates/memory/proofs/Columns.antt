@@ -5,9 +5,11 @@ use mathlib.Core.List.{List, [], ◌∷◌}
 use Prim.Native.Nat.{ℕ, zero, suc, ◌+◌, ◌*◌, ◌-◌, ◌^◌, ◌≤◌, ◌<◌}
 use native.Mathlib.Numerals.{add-one}
 use native.Mathlib.Omega.{arith}
+use lib.ListN.{length, get_or}
 use Rattle.money.specs.Money.{WithinSum}
 use Rattle.money.specs.declared.Money.{Money}
 use Rattle.model.specs.Shipment.{most_rows, sum_over, worth}
+use Rattle.model.specs.declared.Row.{Row}
 use Rattle.memory.specs.Layout.{row_bytes}
 use Rattle.memory.specs.Rows.{row_of}
 use Rattle.memory.specs.Read.{rows_from}
@@ -23,35 +25,38 @@ unfolding rows_from
 rows_done m i zero done = refl
 rows_done m i (suc n) done = absurd (omega arith)
 
--- The rows from the i-th on are left of the n from the k-th on: what they are worth in a money is still to add.
-pub record Adding (money : Money) (m : List ℕ) (k n total i left : ℕ) : Type 0 where
-  pub place : i + left ≡ k + n
-  pub sums : total + sum_over (worth money) (rows_from m i left) ≡ sum_over (worth money) (rows_from m k n)
-  pub low : total + left * 2 ^ 32 ≤ n * 2 ^ 32
+pub rows_many : (m : List ℕ) (i n : ℕ) → length (rows_from m i n) ≡ n
+unfolding rows_from
+rows_many m i zero = refl
+rows_many m i (suc n) = ap suc (rows_many m (suc i) n)
 
-module _ {money : Money} {m : List ℕ} {k n : ℕ} where
-  pub adding_begun : Adding money m k n 0 k n
-  adding_begun = record { place = refl; sums = omega arith; low = omega arith }
+pub row_among : (m : List ℕ) (k n i : ℕ) → i < length (rows_from m k n) → (none : Row) → row_of (row_bytes m (k + i)) ≡ get_or (rows_from m k n) i none
+unfolding rows_from
+row_among m k zero i there none = absurd (omega arith)
+row_among m k (suc n) zero there none = let here : k + 0 ≡ k = omega arith in rw here
+row_among m k (suc n) (suc i) there none = let next : k + suc i ≡ suc k + i = omega arith in rw next (row_among m (suc k) n i (omega arith) none)
 
-  module _ {total i left : ℕ} (going : Adding money m k n total i left) where
-    pub adding_on : {grosze next : ℕ} → 0 < left → grosze ≡ worth money (row_of (row_bytes m i)) → grosze < 2 ^ 32 → next ≡ total + grosze
-        → Adding money m k n next (i + 1) (left - 1)
-    adding_on more is low next_is = record {
-      place = omega arith;
-      sums = omega (arith, ap (sum_over (worth money)) (rows_on m i left more));
-      low = omega arith;
-    }
+pub row_room : (m : List ℕ) (k n i : ℕ) → k + n ≤ most_rows → i < length (rows_from m k n) → k + i < most_rows
+row_room m k n i room there = omega (arith, rows_many m k n)
 
-    pub adding_done : left ≤ 0 → total ≡ sum_over (worth money) (rows_from m k n)
-    adding_done done = omega (arith, ap (sum_over (worth money)) (rows_done m i left done))
+-- Rows are left of some: what they are worth in a money is still to add.
+pub record Adding (money : Money) (rows left : List Row) (total : ℕ) : Type 0 where
+  pub sums : total + sum_over (worth money) left ≡ sum_over (worth money) rows
+  pub low : total + length left * 2 ^ 32 ≤ length rows * 2 ^ 32
 
-    -- and so, where left is what lies before an end
-    pub adding_next : {next : ℕ} → left ≡ k + n - i → i < k + n → worth money (row_of (row_bytes m i)) < 2 ^ 32
-        → next ≡ total + worth money (row_of (row_bytes m i)) → Adding money m k n next (i + 1) (k + n - (i + 1))
-    adding_next left_is more low next_is =
-        let fewer : k + n - (i + 1) ≡ left - 1 = omega arith in
-        rw fewer (adding_on (omega arith) refl low next_is)
+module _ {money : Money} {rows : List Row} where
+  pub adding_begun : Adding money rows rows 0
+  adding_begun = record { sums = omega arith; low = omega arith }
 
-    -- so many numbers of four bytes each are a sum
-    pub adding_within : n ≤ most_rows → WithinSum total
-    adding_within few = omega arith
+  pub adding_on : {row : Row} {left : List Row} {total next : ℕ} → Adding money rows (row ∷ left) total → worth money row < 2 ^ 32
+      → next ≡ total + worth money row → Adding money rows left next
+  adding_on going low next_is = record { sums = omega (arith, going.sums); low = omega (arith, going.low) }
+
+  module _ {total : ℕ} (all : Adding money rows [] total) where
+    pub adding_done : total ≡ sum_over (worth money) rows
+    adding_done = omega (arith, all.sums)
+
+  -- so many numbers of four bytes each are a sum
+  module _ {left : List Row} {total : ℕ} (going : Adding money rows left total) where
+    pub adding_within : length rows ≤ most_rows → WithinSum total
+    adding_within few = omega (arith, going.low)

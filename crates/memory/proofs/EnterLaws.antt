@@ -3,7 +3,6 @@
 use mathlib.Core.Path.{◌≡◌, refl, ap, subst, ◌∙◌}
 use mathlib.Core.Bool.{true, ◌&&◌}
 use mathlib.Core.List.{List, [], ◌++◌, append-nil}
-use mathlib.Core.Logic.{◌⊎◌, inl, ⊎_elim}
 use Prim.Native.Nat.{ℕ, zero, suc, ◌+◌, ◌-◌, ◌^◌, ◌<◌, ◌≤◌}
 use native.Mathlib.Nat.{zero-add}
 use native.Mathlib.Numerals.{add-one}
@@ -24,24 +23,22 @@ use Rattle.epe.specs.Name.{name_in_form}
 use Rattle.epe.specs.declared.name.Name.{Name}
 use Rattle.contents.specs.declared.record.Order.{Order}
 use Rattle.model.specs.Shipment.{most_shipments, most_rows}
-use Rattle.model.specs.Calls.{with_state}
 use Rattle.model.specs.Book.{entered_state, new_shipment}
 use Rattle.model.specs.Sound.{fault_in_range}
 use Rattle.model.specs.declared.Row.{Row}
 use Rattle.model.specs.declared.State.{State}
 use Rattle.model.specs.declared.State.TheVariants.{Open, Faulty}
 use Rattle.model.proofs.SoundParts.{halves}
-use Rattle.memory.specs.Number.{number_at, with_number}
-use Rattle.memory.specs.Layout.{head_size, head_at, amount_at, fee_at, remainder_at, code_at, size, head_bytes, IsHead, OnlyHead}
-use Rattle.memory.specs.States.{last_fault, state_of}
+use Rattle.memory.specs.Number.{number_at}
+use Rattle.memory.specs.Layout.{head_size, head_at, size, head_bytes, IsHead, OnlyHead}
+use Rattle.memory.specs.States.{last_fault}
 use Rattle.memory.specs.Heads.{stage_of, flags_in_form, order_count_in, shipment_in}
-use Rattle.memory.specs.Inner.Stored.{code_of, with_code_at}
+use Rattle.memory.specs.Inner.Stored.{code_of}
 use Rattle.memory.specs.Inner.Enter.{Enterable, OrderEntered, HeadEntered, fields_of, HeadStored}
-use Rattle.memory.proofs.Numbers.{number_alike, stored_is_read}
-use Rattle.memory.proofs.Parts.{part_long, head_byte, head_byte_only, amount_cell, fee_cell, remainder_cell, cell_number_only}
+use Rattle.memory.proofs.Parts.{part_long, head_byte, head_byte_only}
 use Rattle.memory.proofs.Frames.{only_none, only_again}
 use Rattle.memory.proofs.StateLaws.{state_is_read_back}
-use Rattle.memory.proofs.RowLaws.{row_by, code_stored}
+use Rattle.memory.proofs.RowStores.{with_row, read_back, only_it}
 
 -- the state of an order as it is entered
 entered_in_range : (order : Order) → order.fault ≤ last_fault → fault_in_range (entered_state order) ≡ true
@@ -50,60 +47,23 @@ entered_in_range order known =
     cond_either (λ (state : State). fault_in_range state ≡ true) (eqb fault 0) Open (Faulty fault true true) (λ none. refl)
     (λ some. both_yes (leb 1 fault) (leb fault last_fault) (le-leb 1 fault (omega (arith, eqb-false fault 0 some))) (le-leb fault last_fault known))
 
--- a number is as it was once another was stored elsewhere
-number_kept : (width : ℕ) (m : List ℕ) (at n w p : ℕ) → (p + w ≤ at) ⊎ (at + width ≤ p) → number_at w (with_number width m at n) p ≡ number_at w m p
-number_kept width m at n w p apart =
-    let stored = stored_is_read width m at n in
-    number_alike w (with_number width m at n) m p p (λ j within.
-    ⊎_elim (λ before. stored.before (p + j) (omega arith)) (λ behind. stored.behind (p + j) (omega arith)) apart)
-
--- its row: the amount, the fee, the remainder, then the state
+-- its row
 module _ (terms : Terms) (order : Order) (k : ℕ) (m : List ℕ) (there : k < most_rows) (enough : size ≤ length m) where
   abbrev grosze : ℕ
   grosze = order.amount.0
 
-  abbrev with_amount : List ℕ
-  with_amount = with_number 4 m (amount_at k) grosze
+  abbrev code : ℕ
+  code = code_of (entered_state order)
 
-  abbrev with_fee : List ℕ
-  with_fee = with_number 4 with_amount (fee_at k) (fee_of terms grosze)
-
-  abbrev with_remainder : List ℕ
-  with_remainder = with_number 2 with_fee (remainder_at k) (remainder_of terms grosze)
-
-  pub order_entered : Enterable terms order → OrderEntered terms order k m (with_code_at with_remainder k (code_of (entered_state order)))
+  pub order_entered : Enterable terms order → OrderEntered terms order k m (with_row m k grosze (fee_of terms grosze) (remainder_of terms grosze) code)
   order_entered fits =
-      let first = stored_is_read 4 m (amount_at k) grosze in
-      let second = stored_is_read 4 with_amount (fee_at k) (fee_of terms grosze) in
-      let third = stored_is_read 2 with_fee (remainder_at k) (remainder_of terms grosze) in
-      let code = code_stored with_remainder k (code_of (entered_state order)) in
-      let long : size ≤ length with_remainder = omega (arith, first.as_long, second.as_long, third.as_long) in
-      let amount_there =
-      number_kept 2 with_fee (remainder_at k) _ 4 (amount_at k) (inl (omega arith))
-      ∙ number_kept 4 with_amount (fee_at k) _ 4 (amount_at k) (inl (omega arith))
-      ∙ first.back (omega arith) (omega (arith, fits.amount_fits_holds)) in
-      let fee_there =
-      number_kept 2 with_fee (remainder_at k) _ 4 (fee_at k) (inl (omega arith))
-      ∙ second.back (omega (arith, first.as_long)) (omega (arith, fits.fee_fits_holds)) in
-      let remainder_there = third.back (omega (arith, first.as_long, second.as_long)) (omega arith) in
-      let before = row_by with_remainder k there long (record {
-        amount = amount grosze;
-        fee = fee (fee_of terms grosze);
-        remainder = remainder_of terms grosze;
-        state = state_of (get_or with_remainder (code_at k) 0);
-      }) amount_there fee_there remainder_there refl in
-      let read = state_is_read_back (entered_state order) (entered_in_range order fits.fault_known) in
+      let state = state_is_read_back (entered_state order) (entered_in_range order fits.fault_known) in
+      let fee_fits = fits.fee_fits_holds in
+      let back =
+      read_back m k grosze (fee_of terms grosze) (remainder_of terms grosze) code there enough (omega (arith, fits.amount_fits_holds)) (omega (arith, fee_fits)) (omega arith) in
       record {
-        row = code.row there long ∙ ap (with_state (state_of (code_of (entered_state order)))) before ∙ (λ i. record {
-          amount = amount grosze;
-          fee = fee (fee_of terms grosze);
-          remainder = remainder_of terms grosze;
-          state = read i;
-        });
-        only =
-            only_again (cell_number_only 4 m k (amount_at k) _ (λ q h. amount_cell k q there h))
-            (only_again (cell_number_only 4 with_amount k (fee_at k) _ (λ q h. fee_cell k q there h))
-            (only_again (cell_number_only 2 with_fee k (remainder_at k) _ (λ q h. remainder_cell k q there h)) (code.only there)));
+        row = back ∙ (λ i. record { amount = amount grosze; fee = fee (fee_of terms grosze); remainder = remainder_of terms grosze; state = state i });
+        only = only_it m k grosze (fee_of terms grosze) (remainder_of terms grosze) code there;
       }
 
 -- bytes pasted, one more of them each time: j of them, and the rest as it was

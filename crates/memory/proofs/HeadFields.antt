@@ -1,61 +1,76 @@
--- What is read in a head is what its shipment has.
+-- What is read in a head and its orders' rows is what their shipment has.
 -- Assumes nothing.
 use mathlib.Core.Path.{◌≡◌, refl, ap, ◌∙◌}
+use mathlib.Core.Bool.{true}
 use mathlib.Core.List.{List}
 use Prim.Native.Nat.{ℕ}
 use native.Mathlib.Omega.{arith}
+use lib.ListN.{length}
 use Rattle.money.specs.Money.{WithinSum}
 use Rattle.money.specs.declared.Money.{Money}
 use Rattle.money.specs.declared.Money.TheVariants.{K, O}
 use Rattle.model.specs.Shipment.{Shipment, accepted, returned, is_waiting, is_paired}
+use Rattle.model.specs.Sound.{shipment_sound}
+use Rattle.model.specs.declared.Row.{Row}
 use Rattle.model.proofs.SoundParts.{in_order}
-use Rattle.memory.specs.Layout.{head_bytes}
-use Rattle.memory.specs.Heads.{terms_in, stage_in, go_ahead_in, order_count_in, transfers_in, surplus_in, shipment_in}
-use Rattle.memory.specs.Read.{orders_at, shipment_at, Sits}
+use Rattle.memory.specs.Read.{orders_at, shipment_at}
+use Rattle.memory.proofs.Columns.{rows_many}
+use Rattle.memory.specs.Heads.{name_in, terms_in, stage_in, go_ahead_in, transfers_in, surplus_in, shipment_in}
 
-accepted_in_lem : (m : List ℕ) (i k : ℕ) (money : Money) → transfers_in money (head_bytes m i) ≡ accepted money (shipment_at m i k)
-unfolding shipment_in
-accepted_in_lem m i k K = refl
-accepted_in_lem m i k O = refl
+-- in any head, with any rows
+module _ (head : List ℕ) (rows : List Row) where
+  pub accepted_there : (money : Money) → transfers_in money head ≡ accepted money (shipment_in head rows)
+  unfolding shipment_in
+  accepted_there K = refl
+  accepted_there O = refl
 
-returned_in : (m : List ℕ) (i k : ℕ) (money : Money) → surplus_in money (head_bytes m i) ≡ returned money (shipment_at m i k)
-unfolding shipment_in
-returned_in m i k K = refl
-returned_in m i k O = refl
+  pub returned_there : (money : Money) → surplus_in money head ≡ returned money (shipment_in head rows)
+  unfolding shipment_in
+  returned_there K = refl
+  returned_there O = refl
 
-module _ (m : List ℕ) (i k : ℕ) {head : List ℕ} (is_head : head ≡ head_bytes m i) where
-  abbrev s : Shipment
-  s = shipment_at m i k
+  -- of a sound shipment both are sums
+  module _ (sound : shipment_sound (shipment_in head rows) ≡ true) (money : Money) where
+    pub accepted_low : WithinSum (transfers_in money head)
+    accepted_low = omega (arith, accepted_there money, ((in_order (shipment_in head rows) sound).moneys money).accepted_fits)
 
-  pub orders_are : order_count_in head ≡ orders_at m i
-  orders_are = ap order_count_in is_head
+    pub returned_low : WithinSum (surplus_in money head)
+    returned_low = omega (arith, returned_there money, ((in_order (shipment_in head rows) sound).moneys money).returned_fits)
+
+-- and so where that is a shipment known otherwise
+module _ (head : List ℕ) (rows : List Row) {s : Shipment} (is : shipment_in head rows ≡ s) where
+  pub rows_are : rows ≡ s.rows
+  unfolding shipment_in
+  rows_are = ap (λ (s : Shipment). s.rows) is
+
+  pub ident_is : (name_in head).ident ≡ s.agreed.name.ident
+  unfolding shipment_in
+  ident_is = ap (λ (s : Shipment). s.agreed.name.ident) is
 
   pub terms_are : terms_in head ≡ s.agreed.terms
   unfolding shipment_in
-  terms_are = ap terms_in is_head
+  terms_are = ap (λ (s : Shipment). s.agreed.terms) is
 
   pub waiting_is : is_waiting (stage_in head) ≡ is_waiting s.stage
   unfolding shipment_in
-  waiting_is = ap (λ bytes. is_waiting (stage_in bytes)) is_head
+  waiting_is = ap (λ (s : Shipment). is_waiting s.stage) is
 
   pub paired_is : is_paired (stage_in head) ≡ is_paired s.stage
   unfolding shipment_in
-  paired_is = ap (λ bytes. is_paired (stage_in bytes)) is_head
+  paired_is = ap (λ (s : Shipment). is_paired s.stage) is
 
   pub go_ahead_is : go_ahead_in head ≡ s.go_ahead
   unfolding shipment_in
-  go_ahead_is = ap go_ahead_in is_head
+  go_ahead_is = ap (λ (s : Shipment). s.go_ahead) is
 
   pub accepted_is : (money : Money) → transfers_in money head ≡ accepted money s
-  accepted_is money = ap (transfers_in money) is_head ∙ accepted_in_lem m i k money
+  accepted_is money = accepted_there head rows money ∙ ap (accepted money) is
 
   pub returned_is : (money : Money) → surplus_in money head ≡ returned money s
-  returned_is money = ap (surplus_in money) is_head ∙ returned_in m i k money
+  returned_is money = returned_there head rows money ∙ ap (returned money) is
 
-  -- of a sound shipment both are sums
-  module _ (sits : Sits m i k) (money : Money) where
-    pub accepted_within : WithinSum (transfers_in money head)
-    accepted_within = omega (arith, accepted_is money, ((in_order s sits.sound).moneys money).accepted_fits)
-
-    pub returned_within : WithinSum (surplus_in money head)
-    returned_within = omega (arith, returned_is money, ((in_order s sits.sound).moneys money).returned_fits)
+-- and of one at a place, how many orders it has
+module _ (m : List ℕ) (i k : ℕ) (head : List ℕ) (rows : List Row) (is : shipment_in head rows ≡ shipment_at m i k) where
+  pub orders_are : {n : ℕ} → n ≡ length rows → n ≡ orders_at m i
+  unfolding shipment_in
+  orders_are many = many ∙ ap length (rows_are head rows is) ∙ rows_many m k (orders_at m i)

@@ -3,6 +3,8 @@ pub mod Frames
 pub mod Parts
 pub mod StateLaws
 pub mod RowLaws
+pub mod RowBytes
+pub mod RowStores
 pub mod ClassLaws
 pub mod ReturnLaws
 pub mod HoldingLaws

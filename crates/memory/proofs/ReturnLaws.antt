@@ -1,6 +1,6 @@
 -- A return changes a row by its byte of state alone.
 -- Assumes nothing.
-use mathlib.Core.Path.{◌≡◌, refl, ap, ◌∙◌}
+use mathlib.Core.Path.{◌≡◌, refl, sym, ap, ◌∙◌}
 use mathlib.Core.Bool.{Bool, true, false, cond, ◌&&◌}
 use mathlib.Core.List.{List}
 use Prim.Native.Nat.{ℕ, ◌-◌, ◌/◌, ◌%◌, ◌<◌, ◌≤◌}
@@ -87,12 +87,17 @@ module _ (route : Route) (money : Money) (table : List ℕ) (is_table : WaitTabl
       by true h = least money h
       by false h = omega arith
 
-  module _ (m : List ℕ) (k : ℕ) (there : k < most_rows) (enough : size ≤ length m) (code_is : code ≡ code_in (row_bytes m k)) where
+  -- it says as much of a row whose state the byte says
+  pub told_of_row : (row : Row) → state_of code ≡ row.state → get_or table code 0 ≡ only_if (waits_on route money row) (by_money money 1 2)
+  told_of_row row says =
+      is_table.told code byte ∙ ap (λ t. only_if t (by_money money 1 2)) (waits_by_code route money code byte ∙ ap (waits_in route money) says)
+
+  module _ (m : List ℕ) (k : ℕ) (there : k < most_rows) (enough : size ≤ length m) (code_there : code ≡ get_or m (code_at k) 0) where
+    code_is : code ≡ code_in (row_bytes m k)
+    code_is = code_there ∙ sym (code_in_lem m k there enough)
+
     state_then : state_of (code - get_or table code 0) ≡ state_after route money (state_of (code_in (row_bytes m k)))
     state_then = rw (is_table.told code byte) (after_by_code route money code byte ∙ ap (λ c. state_after route money (state_of c)) code_is)
-
-    code_there : code ≡ get_or m (code_at k) 0
-    code_there = code_is ∙ code_in_lem m k there enough
 
     pub row_returned : RowReturned route money k m (with_code_at m k (code - get_or table code 0)) (get_or table code 0)
     unfolding row_of with_code_at

@@ -5,3 +5,4 @@ pub mod Table
 pub mod Classes
 pub mod Returns
 pub mod Holdings
+pub mod Worth

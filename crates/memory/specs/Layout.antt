@@ -1,5 +1,5 @@
 -- Where a book lies in lent memory: the number of shipments, then the heads, one to a shipment, then the rows, one to an order, in columns.
-use Rattle.std.specs.Prelude.{◌≡◌, List, ◌++◌, ℕ, ◌+◌, ◌*◌, ◌≤◌, ◌<◌, length, get_or, take, drop}
+use Rattle.std.specs.Prelude.{◌≡◌, cond, List, ◌++◌, Option, Some, None, ℕ, ◌+◌, ◌*◌, ◌≤◌, ◌<◌, leb, length, get_or, take, drop}
 use Rattle.model.specs.Shipment.{most_shipments, most_rows}
 
 -- The bytes of a head, and of a row.
@@ -29,6 +29,13 @@ code_at k = remainder_at most_rows + k
 -- The bytes of a book: 24,704.
 abbrev pub size : ℕ
 size = code_at most_rows
+
+-- Memory that is long enough for a book, and lent memory as it, where it is.
+abbrev pub IsMemory : List ℕ → Type 0
+IsMemory m = size ≤ length m
+
+abbrev pub memory_of : List ℕ → Option (List ℕ)
+memory_of m = cond (leb size (length m)) (Some m) None
 
 -- A head and a row, each as bytes of its own; a row's are those of its amount, its state, its fee and its remainder.
 unfoldable pub head_bytes : List ℕ → ℕ → List ℕ

@@ -5,5 +5,6 @@ pub mod States
 pub mod Rows
 pub mod Heads
 pub mod Read
+pub mod Lent
 -- What a buyer need not read.
 pub mod Inner

@@ -1,16 +1,16 @@
 // A shipment entered: its rows, and its head.
-ghost use Rattle.std.specs.Prelude.{◌≡◌, true, ◌++◌, ◌≤◌, ◌<◌, ◌^◌, length, replicate};
+ghost use Rattle.std.specs.Prelude.{◌≡◌, true, ◌++◌, ◌≤◌, ◌<◌, ◌^◌, replicate};
 ghost use Rattle.fee.specs.Fee.{TermsFit};
 ghost use Rattle.epe.specs.Name.{name_in_form};
 ghost use Rattle.model.specs.Shipment.{most_shipments, most_rows};
 ghost use Rattle.model.specs.Book.{entered_state};
-ghost use Rattle.memory.specs.Layout.{size};
-ghost use Rattle.memory.specs.Inner.Enter.{Enterable, OrderEntered, HeadEntered, fields_of, HeadStored};
+ghost use Rattle.memory.specs.Layout.{IsMemory};
+ghost use Rattle.memory.specs.Inner.Enter.{Enterable, OrderEntered, HeadEntered, fields_of};
 
-use crate::head::{DATE, FLAT, KIND, LENGTH, ORDERS, PAYMENT, RATE};
+use crate::head::{DATE, FLAT, KIND, LENGTH, ORDERS, PAYMENT, RATE, store_head};
 use crate::number::store;
 use crate::row::store_state;
-use crate::{AMOUNTS, FEES, HEAD_SIZE, HEADS, REMAINDERS};
+use crate::{AMOUNTS, FEES, HEAD_SIZE, REMAINDERS};
 use contents::record::Order;
 use epe::name::Name;
 use fee::{Terms, charge_on};
@@ -19,7 +19,7 @@ use model::State;
 // Enters an order in row k, on the terms of its fee.
 #[tactic(auto, using(fee::proofs::Charged::never_above))]
 pub fn enter_order(memory: &mut [u8], k: usize, terms: Terms, order: Order)
-    requires { (k < most_rows) × (size ≤ length memory.old) × Enterable terms order }
+    requires { (k < most_rows) × IsMemory memory.old × Enterable terms order }
     ensures { OrderEntered terms order k memory.old memory.new }
 {
     let Some(charge) = charge_on(terms, order.amount) else {
@@ -35,11 +35,11 @@ pub fn enter_order(memory: &mut [u8], k: usize, terms: Terms, order: Order)
 // Enters a shipment of n orders in head i.
 #[tactic(auto, using(crate::proofs::EnterLaws::name_fits))]
 pub fn enter_head(memory: &mut [u8], i: usize, name: Name, terms: Terms, n: u64)
-    requires { (i < most_shipments) × (size ≤ length memory.old) × (name_in_form name ≡ true) × TermsFit terms × (n < 2 ^ 16) }
+    requires { (i < most_shipments) × IsMemory memory.old × (name_in_form name ≡ true) × TermsFit terms × (n < 2 ^ 16) }
     ensures { HeadEntered name terms n i memory.old memory.new }
 {
     let head = head_of(name, terms, n);
-    store_head(memory, i, head);
+    store_head(memory, i, &head);
 }
 
 // The state of an order as it is entered.
@@ -60,15 +60,6 @@ fn head_of(name: Name, terms: Terms, n: u64) -> [u8; HEAD_SIZE]
     let mut head = fields(name, terms, n);
     head[..LENGTH].copy_from_slice(&name.ident.bytes);
     head
-}
-
-// Stores the bytes of a head as head i.
-fn store_head(memory: &mut [u8], i: usize, head: [u8; HEAD_SIZE])
-    requires { (i < most_shipments) × (size ≤ length memory.old) }
-    ensures { HeadStored head i memory.old memory.new }
-{
-    let at = HEADS + HEAD_SIZE * i;
-    memory[at..at + HEAD_SIZE].copy_from_slice(&head);
 }
 
 // The head of a shipment as it is entered, but for the identifier.

@@ -1,10 +1,11 @@
 // A shipment's head: its fields, read from its bytes and stored in place.
-ghost use Rattle.std.specs.Prelude.{◌≡◌, ◌&&◌, ◌+◌, ◌≤◌, ◌<◌, ◌^◌, length};
+ghost use Rattle.std.specs.Prelude.{◌≡◌, ◌&&◌, List, ℕ, ◌+◌, ◌≤◌, ◌<◌, ◌^◌};
 ghost use Rattle.money.specs.Money.{amount, fee, is_sum, WithinSum, sum_of, grosze_in, money_of_sum};
 ghost use Rattle.money.specs.declared.Money.TheVariants.{K, O};
 ghost use Rattle.model.specs.Shipment.{most_shipments, is_waiting, is_paired};
-ghost use Rattle.memory.specs.Layout.{head_size, size, head_bytes, IsHead};
+ghost use Rattle.memory.specs.Layout.{head_size, IsMemory, IsHead};
 ghost use Rattle.memory.specs.Heads.{terms_in, stage_in, go_ahead_in, flags_in_form, order_count_in, accepted_at, transfers_in, returned_at, surplus_in};
+ghost use Rattle.memory.specs.Inner.Enter.{HeadStored};
 ghost use Rattle.memory.specs.Inner.Stored.{stage_byte, with_stage_at, with_go_ahead_at, with_transfers_at, with_surplus_at};
 
 use crate::number::{read, store};
@@ -12,6 +13,7 @@ use crate::{HEAD_SIZE, HEADS};
 use fee::{Rate, Terms};
 use model::Stage;
 use money::{Amount, Fee, Grosze, Money, Sum};
+use std::marker::Model;
 
 // Where the length of the identifier lies, behind the identifier, which is the first field.
 pub const LENGTH: usize = 17;
@@ -52,133 +54,141 @@ const RETURNED_O: usize = 56;
 // The rate.
 pub const RATE: usize = 64;
 
-// The bytes of head i.
-#[tactic(auto, using(crate::proofs::Parts::part_there), unfolding(crate::specs::Layout::head_bytes))]
-pub fn head_bytes(memory: &[u8], i: usize) -> &[u8]
-    requires { (i < most_shipments) × (size ≤ length memory.now) }
-    ensures { (result.now ≡ head_bytes memory.now i) × IsHead result.now }
-{
-    let at = HEADS + HEAD_SIZE * i;
-    let end = at + HEAD_SIZE;
-    &memory[at..end]
+// A shipment's head, to be read in place.
+#[derive(Drop)]
+pub struct Head<'a> {
+    pub(crate) bytes: &'a [u8],
 }
 
-// Is the shipment Waiting?
-#[tactic(auto, using(crate::proofs::HeadLaws::waiting_byte))]
-pub fn is_waiting(head: &[u8]) -> bool
-    requires { IsHead head.now }
-    ensures { result ≡ is_waiting (stage_in head.now) }
-{
-    head[STAGE] == 0
+impl<'a> Model for Head<'a> {
+    ghost Value = { List ℕ };
+
+    ghost view = { λ head. head.bytes.now };
+
+    ghost invariant = { λ head. IsHead head.bytes.now };
 }
 
-// Is the shipment Paired?
-#[tactic(auto, using(crate::proofs::HeadLaws::paired_byte))]
-pub fn is_paired(head: &[u8]) -> bool
-    requires { IsHead head.now }
-    ensures { result ≡ is_paired (stage_in head.now) }
-{
-    head[STAGE] == 1
-}
+impl<'a> Head<'a> {
+    // The head that bytes are.
+    pub fn of(bytes: &'a [u8]) -> Head<'a>
+        requires { IsHead bytes.now }
+        ensures { result ≡ bytes.now }
+    {
+        Head { bytes }
+    }
 
-// Are the bytes of stage and go-ahead in form?
-pub fn has_flags_in_form(head: &[u8]) -> bool
-    requires { IsHead head.now }
-    ensures { result ≡ flags_in_form head.now }
-{
-    head[STAGE] <= 2 && head[GO_AHEAD] <= 1
-}
+    // Its bytes.
+    pub fn bytes(&self) -> &'a [u8]
+        ensures { (result.now ≡ self.now) × IsHead result.now }
+    {
+        self.bytes
+    }
 
-// Did a go-ahead come?
-pub fn has_go_ahead(head: &[u8]) -> bool
-    requires { IsHead head.now }
-    ensures { result ≡ go_ahead_in head.now }
-{
-    head[GO_AHEAD] == 1
-}
+    // Is the shipment Waiting?
+    #[tactic(auto, using(crate::proofs::HeadLaws::waiting_byte))]
+    pub fn is_waiting(&self) -> bool
+        ensures { result ≡ is_waiting (stage_in self.now) }
+    {
+        self.bytes[STAGE] == 0
+    }
 
-// The flat part and the rate. What four bytes say is never above the cap of a sum.
-pub fn terms(head: &[u8]) -> Terms
-    requires { IsHead head.now }
-    ensures { result ≡ terms_in head.now }
-{
-    Terms {
-        flat: Fee::sum(read::<4>(head, FLAT)),
-        rate: Rate(read::<2>(head, RATE)),
+    // Is the shipment Paired?
+    #[tactic(auto, using(crate::proofs::HeadLaws::paired_byte))]
+    pub fn is_paired(&self) -> bool
+        ensures { result ≡ is_paired (stage_in self.now) }
+    {
+        self.bytes[STAGE] == 1
+    }
+
+    // Are the bytes of stage and go-ahead in form?
+    pub fn has_flags_in_form(&self) -> bool
+        ensures { result ≡ flags_in_form self.now }
+    {
+        self.bytes[STAGE] <= 2 && self.bytes[GO_AHEAD] <= 1
+    }
+
+    // Did a go-ahead come?
+    pub fn has_go_ahead(&self) -> bool
+        ensures { result ≡ go_ahead_in self.now }
+    {
+        self.bytes[GO_AHEAD] == 1
+    }
+
+    // The flat part and the rate. What four bytes say is never above the cap of a sum.
+    pub fn terms(&self) -> Terms
+        ensures { result ≡ terms_in self.now }
+    {
+        Terms {
+            flat: Fee::sum(read::<4>(self.bytes, FLAT)),
+            rate: Rate(read::<2>(self.bytes, RATE)),
+        }
+    }
+
+    // How many orders the shipment has.
+    pub fn orders(&self) -> u64
+        ensures { (result ≡ order_count_in self.now) × (result < 2 ^ 16) }
+    {
+        read::<2>(self.bytes, ORDERS)
+    }
+
+    // Are the transfers accepted and the surplus returned of a money sums?
+    pub fn has_sums_in_range(&self, money: Money) -> bool
+        ensures { result ≡ (is_sum (transfers_in money self.now) && is_sum (surplus_in money self.now)) }
+    {
+        let accepted = accepted_at(money);
+        let returned = returned_at(money);
+        Amount::is_sum(read::<8>(self.bytes, accepted))
+            && Amount::is_sum(read::<8>(self.bytes, returned))
+    }
+
+    // The transfers accepted of a money.
+    pub fn accepted(&self, money: Money) -> Sum
+        requires { WithinSum (transfers_in money self.now) }
+        ensures { result ≡ sum_of money (transfers_in money self.now) }
+    {
+        let at = accepted_at(money);
+        Sum::of(money, read::<8>(self.bytes, at))
+    }
+
+    // The transfers accepted of K.
+    pub fn amounts_accepted(&self) -> Amount
+        requires { WithinSum (transfers_in K self.now) }
+        ensures { result ≡ amount (transfers_in K self.now) }
+    {
+        Amount::sum(read::<8>(self.bytes, ACCEPTED_K))
+    }
+
+    // The transfers accepted of O.
+    pub fn fees_accepted(&self) -> Fee
+        requires { WithinSum (transfers_in O self.now) }
+        ensures { result ≡ fee (transfers_in O self.now) }
+    {
+        Fee::sum(read::<8>(self.bytes, ACCEPTED_O))
+    }
+
+    // The surplus returned of a money.
+    pub fn returned(&self, money: Money) -> Sum
+        requires { WithinSum (surplus_in money self.now) }
+        ensures { result ≡ sum_of money (surplus_in money self.now) }
+    {
+        let at = returned_at(money);
+        Sum::of(money, read::<8>(self.bytes, at))
     }
 }
 
-// How many orders the shipment has.
-pub fn orders(head: &[u8]) -> u64
-    requires { IsHead head.now }
-    ensures { (result ≡ order_count_in head.now) × (result < 2 ^ 16) }
+// Stores the bytes of a head as head i.
+// Kept: 4b: it is `copy_from_slice`, to the place of a head.
+pub fn store_head(memory: &mut [u8], i: usize, head: &[u8])
+    requires { (i < most_shipments) × IsMemory memory.old × IsHead head.now }
+    ensures { HeadStored head.now i memory.old memory.new }
 {
-    read::<2>(head, ORDERS)
-}
-
-// Are the transfers accepted and the surplus returned of a money sums?
-pub fn has_sums_in_range(head: &[u8], money: Money) -> bool
-    requires { IsHead head.now }
-    ensures { result ≡ (is_sum (transfers_in money head.now) && is_sum (surplus_in money head.now)) }
-{
-    let accepted = accepted_at(money);
-    let returned = returned_at(money);
-    Amount::is_sum(read::<8>(head, accepted)) && Amount::is_sum(read::<8>(head, returned))
-}
-
-// The transfers accepted of a money.
-pub fn accepted(head: &[u8], money: Money) -> Sum
-    requires { IsHead head.now × WithinSum (transfers_in money head.now) }
-    ensures { result ≡ sum_of money (transfers_in money head.now) }
-{
-    let at = accepted_at(money);
-    Sum::of(money, read::<8>(head, at))
-}
-
-// The transfers accepted of K.
-pub fn amounts_accepted(head: &[u8]) -> Amount
-    requires { IsHead head.now × WithinSum (transfers_in K head.now) }
-    ensures { result ≡ amount (transfers_in K head.now) }
-{
-    Amount::sum(read::<8>(head, ACCEPTED_K))
-}
-
-// The transfers accepted of O.
-pub fn fees_accepted(head: &[u8]) -> Fee
-    requires { IsHead head.now × WithinSum (transfers_in O head.now) }
-    ensures { result ≡ fee (transfers_in O head.now) }
-{
-    Fee::sum(read::<8>(head, ACCEPTED_O))
-}
-
-// The surplus returned of a money.
-pub fn returned(head: &[u8], money: Money) -> Sum
-    requires { IsHead head.now × WithinSum (surplus_in money head.now) }
-    ensures { result ≡ sum_of money (surplus_in money head.now) }
-{
-    let at = returned_at(money);
-    Sum::of(money, read::<8>(head, at))
-}
-
-// The surplus returned of K.
-pub fn amounts_returned(head: &[u8]) -> Amount
-    requires { IsHead head.now × WithinSum (surplus_in K head.now) }
-    ensures { result ≡ amount (surplus_in K head.now) }
-{
-    Amount::sum(read::<8>(head, RETURNED_K))
-}
-
-// The surplus returned of O.
-pub fn fees_returned(head: &[u8]) -> Fee
-    requires { IsHead head.now × WithinSum (surplus_in O head.now) }
-    ensures { result ≡ fee (surplus_in O head.now) }
-{
-    Fee::sum(read::<8>(head, RETURNED_O))
+    let at = HEADS + HEAD_SIZE * i;
+    memory[at..at + HEAD_SIZE].copy_from_slice(head);
 }
 
 // Stores a stage in head i.
 pub fn store_stage(memory: &mut [u8], i: usize, stage: Stage)
-    requires { (i < most_shipments) × (size ≤ length memory.old) }
+    requires { (i < most_shipments) × IsMemory memory.old }
     ensures { memory.new ≡ with_stage_at memory.old i stage }
 {
     let at = HEADS + HEAD_SIZE * i;
@@ -187,7 +197,7 @@ pub fn store_stage(memory: &mut [u8], i: usize, stage: Stage)
 
 // Stores in head i that a go-ahead came.
 pub fn store_go_ahead(memory: &mut [u8], i: usize)
-    requires { (i < most_shipments) × (size ≤ length memory.old) }
+    requires { (i < most_shipments) × IsMemory memory.old }
     ensures { memory.new ≡ with_go_ahead_at memory.old i }
 {
     let at = HEADS + HEAD_SIZE * i;
@@ -196,7 +206,7 @@ pub fn store_go_ahead(memory: &mut [u8], i: usize)
 
 // Stores the transfers accepted of a money in head i.
 pub fn store_accepted(memory: &mut [u8], i: usize, sum: Sum)
-    requires { (i < most_shipments) × (size ≤ length memory.old) }
+    requires { (i < most_shipments) × IsMemory memory.old }
     ensures { memory.new ≡ with_transfers_at memory.old i (money_of_sum sum) (grosze_in sum) }
 {
     let at = HEADS + HEAD_SIZE * i;
@@ -206,7 +216,7 @@ pub fn store_accepted(memory: &mut [u8], i: usize, sum: Sum)
 
 // Stores the surplus returned of a money in head i.
 pub fn store_returned(memory: &mut [u8], i: usize, sum: Sum)
-    requires { (i < most_shipments) × (size ≤ length memory.old) }
+    requires { (i < most_shipments) × IsMemory memory.old }
     ensures { memory.new ≡ with_surplus_at memory.old i (money_of_sum sum) (grosze_in sum) }
 {
     let at = HEADS + HEAD_SIZE * i;

@@ -5,6 +5,7 @@ use mathlib.Core.List.{List, [], ◌∷◌, map}
 use mathlib.Core.Option.{Option, some, none}
 use Prim.Native.Nat.{ℕ}
 use lib.ListN.{replicate}
+use Rattle.std.specs.Prelude.{Result, Ok, Err}
 use Rattle.text.specs.Bytes.{digit, letter, letter_or_digit}
 use Rattle.text.specs.Quoted.{bytes}
 use Rattle.text.specs.Utf8Parts.{parts_joined}
@@ -19,8 +20,6 @@ use Rattle.model.specs.Zs1.{calls, zs1}
 use Rattle.model.proofs.AboutZs1.{stepped}
 use Rattle.write.specs.Spelled.{digits, places_within}
 use Rattle.write.specs.Written.{Wrote, wrote, leaving, written_after}
-use Rattle.write.specs.declared.Writing.{Writing}
-use Rattle.write.specs.declared.Writing.TheVariants.{Written, Refused}
 use Rattle.report.specs.Lines.{is_moment}
 use Rattle.report.specs.Rkf.{rkf_lines, rkf, fits_rkf, rkf_written}
 use Rattle.report.specs.Ope.{faulty_from, ope_records, ope_lines, ope, are_coded, fits_ope, ope_on, ope_of, ope_written}
@@ -63,39 +62,39 @@ none_faulty_lem = refl
 -- What RKF asks: no identifier of its own; a source too short for one; 30 February; hour 24; no creation time; refusals that have no code. 31 is asked
 -- before 30, and an output that is just long enough will do.
 rkf_answers : ((rkf_into [] 20201007130000 (bytes "ZS1") 0 99).answer ∷ (rkf_into (bytes "PP0000000001") 20201007130000 (bytes "ZS") 0 99).answer ∷ [])
-    ≡ Refused 31 ∷ Refused 31 ∷ []
+    ≡ Err 31 ∷ Err 31 ∷ []
 unfolding rkf_into
 rkf_answers = refl
 
 moments : map (λ (created : ℕ). (rkf_into (bytes "PP0000000001") created (bytes "ZS1") 0 99).answer) (20201007130000 ∷ 20200230130000 ∷ 20201007240000 ∷ 0 ∷ [])
-    ≡ Written 53 ∷ Refused 31 ∷ Refused 31 ∷ Refused 31 ∷ []
+    ≡ Ok 53 ∷ Err 31 ∷ Err 31 ∷ Err 31 ∷ []
 unfolding rkf_into
 moments = refl
 
 refusals : map (λ (refusal : ℕ). (rkf_into (bytes "PP0000000001") 20201007130000 (bytes "ZS1") refusal 64).answer) (0 ∷ 99 ∷ 100 ∷ 307 ∷ 308 ∷ 901 ∷ [])
-    ≡ Written 53 ∷ Refused 31 ∷ Written 64 ∷ Written 64 ∷ Refused 31 ∷ Refused 31 ∷ []
+    ≡ Ok 53 ∷ Err 31 ∷ Ok 64 ∷ Ok 64 ∷ Err 31 ∷ Err 31 ∷ []
 unfolding rkf_into
 refusals = refl
 
 rooms : map (λ (room : ℕ). (rkf_into (bytes "PP0000000001") 20201007130000 (bytes "ZS1") 103 room).answer) (0 ∷ 63 ∷ 64 ∷ 65 ∷ [])
-    ≡ Refused 30 ∷ Refused 30 ∷ Written 64 ∷ Written 64 ∷ []
+    ≡ Err 30 ∷ Err 30 ∷ Ok 64 ∷ Ok 64 ∷ []
 unfolding rkf_into
 rooms = refl
 
 -- What OPE asks of ZS1: no book; an identifier that is not in it; none of its own; a day that there is not.
-abbrev answer_to : Option Book → Ident → List ℕ → ℕ → Writing
+abbrev answer_to : Option Book → Ident → List ℕ → ℕ → Result ℕ ℕ
 answer_to book ident own created = (ope_into book ident own created (308 ∷ []) 64).answer
 
 ope_answers : answer_to none zs1 [] 0 ∷ answer_to (some (book_at calls 1)) (ident_of (bytes "ZS2")) [] 0
     ∷ answer_to (some (book_at calls 1)) zs1 [] 20201007131500 ∷ answer_to (some (book_at calls 1)) zs1 (bytes "PP0000000003") 20201032131500 ∷ []
-    ≡ Refused 10 ∷ Refused 13 ∷ Refused 31 ∷ Refused 31 ∷ []
+    ≡ Err 10 ∷ Err 13 ∷ Err 31 ∷ Err 31 ∷ []
 unfolding ope_into
 ope_answers = refl
 
 -- Codes: none; those at the edges; bad entries that no order needs.
 codes_asked : map (λ (codes : List ℕ). (ope_into (some (book_at calls 1)) zs1 (bytes "PP0000000003") 20201007131500 codes 64).answer)
     ([] ∷ (307 ∷ []) ∷ (308 ∷ []) ∷ (336 ∷ []) ∷ (337 ∷ []) ∷ (308 ∷ 0 ∷ 9_999 ∷ []) ∷ [])
-    ≡ Refused 31 ∷ Refused 31 ∷ Written 64 ∷ Written 64 ∷ Refused 31 ∷ Written 64 ∷ []
+    ≡ Err 31 ∷ Err 31 ∷ Ok 64 ∷ Ok 64 ∷ Err 31 ∷ Ok 64 ∷ []
 unfolding ope_into
 codes_asked = refl
 

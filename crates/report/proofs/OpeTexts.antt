@@ -1,14 +1,17 @@
 -- OPE's text, and what a pass over the rows finds of it.
 -- Assumes nothing.
 use mathlib.Core.Path.{◌≡◌, refl, ◌∙◌, ap}
-use mathlib.Core.Bool.{Bool, true, false, ◌&&◌}
+use mathlib.Core.Bool.{true, false, cond}
 use mathlib.Core.List.{List, [], ◌∷◌, ◌++◌}
 use Prim.Native.Nat.{ℕ, suc, ◌+◌}
 use native.Mathlib.Numerals.{add-one}
 use native.Mathlib.Omega.{arith}
 use lib.ListN.{length, length-append}
+use Rattle.std.specs.Prelude.{Option, Some, None}
+use Rattle.std.specs.Option.{option_and_then}
 use Rattle.text.specs.Bytes.{between}
 use Rattle.text.specs.Quoted.{bytes}
+use Rattle.text.proofs.Branches.{either_way}
 use Rattle.model.specs.declared.Row.{Row}
 use Rattle.model.specs.declared.State.{State}
 use Rattle.model.specs.declared.State.TheVariants.{Open, Posted, Paid, Faulty, Undelivered, Withdrawn}
@@ -28,76 +31,67 @@ unfolding ope ope_lines ope_text
 ope_text_lem own created codes source rows =
     report_text (bytes "OPE") own created source (spelled (length (faulty_from 1 rows))) (ope_records codes 1 (faulty_from 1 rows))
 
-and_assoc : (t u v : Bool) → ((t && u) && v) ≡ (t && (u && v))
-and_assoc true u v = refl
-and_assoc false u v = refl
+-- what a pass finds of some orders beside what it found before, if each has a code
+abbrev pub found_with : List ℕ → Found → List FaultyOrder → Option Found
+found_with codes found orders =
+    cond (are_coded codes orders)
+    (Some (record { count = found.count + length orders; length = found.length + length (behind_header (ope_records codes (found.count + 1) orders)) }))
+    None
 
-and_one : (t : Bool) → t ≡ (t && true)
-and_one true = refl
-and_one false = refl
+module _ (codes : List ℕ) (found : Found) where
+  none_more : Some found ≡ found_with codes found []
+  unfolding ope_records behind_header are_coded
+  none_more =
+      let count : found.count ≡ found.count + 0 = omega arith in
+      let long : found.length ≡ found.length + 0 = omega arith in
+      λ t. Some (record { count = count t; length = long t })
 
--- one order more among those found: how many, how long, and whether coded
-module _ (codes : List ℕ) (found : Found) (number : ℕ) (more : List FaultyOrder) where
-  abbrev length_from : ℕ → List FaultyOrder → ℕ
-  length_from running orders = length (behind_header (ope_records codes running orders))
+  -- one order more
+  module _ (number fault : ℕ) (more : List FaultyOrder) where
+    abbrev order : FaultyOrder
+    order = record { number = number; fault = fault }
 
-  count_more : (state : State) → (found_order codes found number state).count + length more ≡ found.count + length (before_faulty number state more)
-  count_more Open = refl
-  count_more Posted = refl
-  count_more Paid = refl
-  count_more (Faulty fault k o) = omega arith
-  count_more (Undelivered k) = refl
-  count_more (Withdrawn k o) = refl
+    abbrev next : Found
+    next = record { count = found.count + 1; length = found.length + places_of (found.count + 1) + places_of number + 9 }
 
-  length_more : (state : State) → (found_order codes found number state).length + length_from ((found_order codes found number state).count + 1) more
-      ≡ found.length + length_from (found.count + 1) (before_faulty number state more)
-  unfolding ope_records behind_header
-  length_more Open = refl
-  length_more Posted = refl
-  length_more Paid = refl
-  length_more (Faulty fault k o) =
-      let code = code_for codes fault in
-      let row = record_long (found.count + 1) number code in
-      let text = ap (λ (s : List ℕ). length s) (record_text_lem (found.count + 1) number code) in
-      let alone = length-append (line (record_of (found.count + 1) number code)) [] in
-      let all = length-append (line (record_of (found.count + 1) number code)) (behind_header (ope_records codes (found.count + 1 + 1) more)) in
-      omega arith
-  length_more (Undelivered k) = refl
-  length_more (Withdrawn k o) = refl
+    fault_more : between 308 336 (code_for codes fault) ≡ true → found_with codes next more ≡ found_with codes found (order ∷ more)
+    unfolding ope_records behind_header are_coded
+    fault_more coded =
+        let code = code_for codes fault in
+        let row = record_long (found.count + 1) number code in
+        let text = ap (λ (s : List ℕ). length s) (record_text_lem (found.count + 1) number code) in
+        let alone = length-append (line (record_of (found.count + 1) number code)) [] in
+        let all = length-append (line (record_of (found.count + 1) number code)) (behind_header (ope_records codes (found.count + 1 + 1) more)) in
+        let count : next.count + length more ≡ found.count + length (order ∷ more) = omega arith in
+        let long : next.length + length (behind_header (ope_records codes (next.count + 1) more))
+        ≡ found.length + length (behind_header (ope_records codes (found.count + 1) (order ∷ more))) = omega arith in
+        rw coded (λ t. cond (are_coded codes more) (Some (record { count = count t; length = long t })) None)
 
-  coded_more : (state : State) → ((found_order codes found number state).coded && are_coded codes more) ≡ (found.coded && are_coded codes (before_faulty number state more))
-  unfolding are_coded
-  coded_more Open = refl
-  coded_more Posted = refl
-  coded_more Paid = refl
-  coded_more (Faulty fault k o) = and_assoc found.coded (between 308 336 (code_for codes fault)) (are_coded codes more)
-  coded_more (Undelivered k) = refl
-  coded_more (Withdrawn k o) = refl
+    not_coded : between 308 336 (code_for codes fault) ≡ false → None ≡ found_with codes found (order ∷ more)
+    unfolding are_coded
+    not_coded none = rw none
 
--- what a pass finds, of all rows from a number on
-pub record FoundAll (codes : List ℕ) (found : Found) (orders : List FaultyOrder) (after : Found) : Type 0 where
-  pub count : after.count ≡ found.count + length orders
-  pub long : after.length ≡ found.length + length (behind_header (ope_records codes (found.count + 1) orders))
-  pub coded : after.coded ≡ (found.coded && are_coded codes orders)
+  module _ (number : ℕ) (rows : List Row) (rest : (next : Found) → found_in codes next (suc number) rows ≡ found_with codes next (faulty_from (number + 1) rows)) where
+    abbrev after : State → Option Found
+    after state = option_and_then (λ next. found_in codes next (suc number) rows) (found_order codes found number state)
 
-pub found_all : (codes : List ℕ) (found : Found) (number : ℕ) (rows : List Row) → FoundAll codes found (faulty_from number rows) (found_in codes found number rows)
-unfolding found_in faulty_from ope_records behind_header are_coded
-found_all codes found number [] = record { count = omega arith; long = omega arith; coded = and_one found.coded }
+    order_more : (state : State) → after state ≡ found_with codes found (before_faulty number state (faulty_from (number + 1) rows))
+    order_more Open = rest found
+    order_more Posted = rest found
+    order_more Paid = rest found
+    order_more (Faulty fault k o) =
+        either_way (between 308 336 (code_for codes fault))
+        (λ coded. rw coded (rest (next number fault (faulty_from (number + 1) rows))) ∙ fault_more number fault (faulty_from (number + 1) rows) coded)
+        (λ none. rw none refl ∙ not_coded number fault (faulty_from (number + 1) rows) none)
+    order_more (Undelivered k) = rest found
+    order_more (Withdrawn k o) = rest found
+
+-- of all rows from a number on
+pub found_all : (codes : List ℕ) (found : Found) (number : ℕ) (rows : List Row) → found_in codes found number rows ≡ found_with codes found (faulty_from number rows)
+unfolding found_in faulty_from
+found_all codes found number [] = none_more codes found
 found_all codes found number (row ∷ rows) =
-    let next = found_order codes found number row.state in
-    let more = faulty_from (number + 1) rows in
-    let rest : FoundAll codes next more (found_in codes next (suc number) rows) =
-    rw (add-one number) (found_all codes next (suc number) rows) in
-    record {
-      count = rest.count ∙ count_more codes found number more row.state;
-      long = rest.long ∙ length_more codes found number more row.state;
-      coded = rest.coded ∙ coded_more codes found number more row.state;
-    }
-
--- of a shipment's own rows
-pub found_rows : (codes : List ℕ) (rows : List Row) → FoundAll codes (record { count = 0; length = 0; coded = true }) (faulty_from 1 rows)
-    (found_in codes (record { count = 0; length = 0; coded = true }) 1 rows)
-found_rows codes rows = found_all codes (record { count = 0; length = 0; coded = true }) 1 rows
+    order_more codes found number rows (λ next. rw (add-one number) (found_all codes next (suc number) rows)) row.state
 
 -- how long it is
 pub ope_long : (own : List ℕ) (created : ℕ) (source : List ℕ) (count : ℕ) (records : List ℕ)

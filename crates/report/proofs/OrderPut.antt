@@ -3,14 +3,12 @@
 use mathlib.Core.Path.{◌≡◌, refl, sym, ap}
 use mathlib.Core.Bool.{Bool}
 use mathlib.Core.List.{List, [], ◌∷◌, ◌++◌, append-nil}
-use Prim.Native.Nat.{ℕ, suc, ◌+◌, ◌-◌, ◌≤◌, ◌<◌}
+use Prim.Native.Nat.{ℕ, ◌+◌, ◌^◌, ◌≤◌, ◌<◌}
 use native.Mathlib.Omega.{arith}
 use lib.ListN.{length}
+use Rattle.model.specs.declared.Row.{Row}
 use Rattle.model.specs.declared.State.{State}
 use Rattle.model.specs.declared.State.TheVariants.{Open, Posted, Paid, Faulty, Undelivered, Withdrawn}
-use Rattle.memory.specs.Layout.{row_bytes}
-use Rattle.memory.specs.Rows.{row_of}
-use Rattle.memory.specs.Read.{rows_from}
 use Rattle.write.specs.Files.{line}
 use Rattle.write.specs.Writer.{HasRoom, Writes}
 use Rattle.write.specs.declared.Writer.{Writer}
@@ -67,51 +65,43 @@ few_orders number (Faulty fault k o) = omega arith
 few_orders number (Undelivered k) = omega arith
 few_orders number (Withdrawn k o) = omega arith
 
--- A pass over rows that puts the records: those of the rows that are left make the whole.
-pub record Recording (start : Writer) (memory codes : List ℕ) (k n running : ℕ) (now : Writer) (done : ℕ) : Type 0 where
-  pub few : running ≤ done + 1
-  pub left : Left (records_in codes (rows_from memory k n)) start
-      (behind_header (ope_records codes running (faulty_from (done + 1) (rows_from memory (k + done) (n - done))))) now
+-- Orders are left of some, the first of which has this number: their records are still to put.
+pub record Recording (start : Writer) (codes : List ℕ) (rows left : List Row) (running number : ℕ) (now : Writer) : Type 0 where
+  pub place : number + length left ≡ 1 + length rows
+  pub few : running ≤ number
+  pub to_put : Left (records_in codes rows) start (behind_header (ope_records codes running (faulty_from number left))) now
 
-pub recording_begun : {start : Writer} {memory codes : List ℕ} {k n : ℕ} → HasRoom (records_in codes (rows_from memory k n)) start
-    → Recording start memory codes k n 1 start 0
-recording_begun {k = k} {n = n} room =
-    let here : k + 0 ≡ k = omega arith in
-    let all : n - 0 ≡ n = omega arith in
-    record { few = omega arith; left = rw (here, all) (all_left room) }
+pub recording_begun : {start : Writer} {codes : List ℕ} {rows : List Row} → HasRoom (records_in codes rows) start → Recording start codes rows rows 1 1 start
+recording_begun room = record { place = refl; few = omega arith; to_put = all_left room }
 
-module _ {start : Writer} {memory codes : List ℕ} {k n running : ℕ} {now : Writer} {done : ℕ} (so_far : Recording start memory codes k n running now done) (more : done < n)
-    (state : State) (is_state : state ≡ (row_of (row_bytes memory (k + done))).state) where
+module _ {start : Writer} {codes : List ℕ} {rows : List Row} (row : Row) {left : List Row} {running number : ℕ} {now : Writer}
+    (so_far : Recording start codes rows (row ∷ left) running number now) {state : State} (is_state : state ≡ row.state) where
   abbrev piece : List ℕ
-  piece = record_in codes running (done + 1) state
+  piece = record_in codes running number state
 
   abbrev behind : List ℕ
-  behind = behind_header (ope_records codes (running + length (before_faulty (done + 1) state [])) (faulty_from (done + 1 + 1) (rows_from memory (k + (done + 1)) (n - (done + 1)))))
+  behind = behind_header (ope_records codes (running + length (before_faulty number state [])) (faulty_from (number + 1) left))
 
-  left_here : Left (records_in codes (rows_from memory k n)) start (piece ++ behind) now
-  unfolding faulty_from rows_from
-  left_here =
-      let left : n - done ≡ suc (n - (done + 1)) = omega arith in
-      let next_row : k + (done + 1) ≡ suc (k + done) = omega arith in
-      rw (← order_before codes running (done + 1) (faulty_from (done + 1 + 1) (rows_from memory (k + (done + 1)) (n - (done + 1)))) state, next_row, is_state)
-      (rw left at so_far.left)
+  left_here : Left (records_in codes rows) start (piece ++ behind) now
+  unfolding faulty_from
+  left_here = rw (← order_before codes running number (faulty_from (number + 1) left) state, is_state) so_far.to_put
 
   pub order_room : HasRoom piece now
   order_room = room_first piece behind left_here.room
 
-  pub recording_on : {next : ℕ} {now' : Writer} → next ≡ running + length (before_faulty (done + 1) state []) → Writes piece now now'
-      → Recording start memory codes k n next now' (done + 1)
-  recording_on is_next put =
-      let few = so_far.few in
-      let one = few_orders (done + 1) state in
-      record { few = omega arith; left = rw is_next (left_behind piece behind left_here put) }
+  pub order_few : length rows ≤ 2_048 → running < 2 ^ 32
+  order_few most = omega (arith, so_far.place, so_far.few)
 
-pub recording_done : {start : Writer} {memory codes : List ℕ} {k n running : ℕ} {now : Writer} {done : ℕ} → Recording start memory codes k n running now done → n ≤ done
-    → Writes (records_in codes (rows_from memory k n)) start now
-unfolding faulty_from rows_from ope_records behind_header
-recording_done {n = n} {done = done} so_far end =
-    let none : n - done ≡ 0 = omega arith in
-    none_left (rw none at so_far.left)
+  pub recording_on : {next : ℕ} {now' : Writer} → next ≡ running + length (before_faulty number state []) → Writes piece now now'
+      → Recording start codes rows left next (number + 1) now'
+  recording_on is_next put =
+      let one = few_orders number state in
+      record { place = omega (arith, so_far.place); few = omega (arith, so_far.few); to_put = rw is_next (left_behind piece behind left_here put) }
+
+pub recording_done : {start : Writer} {codes : List ℕ} {rows : List Row} {running number : ℕ} {now : Writer} → Recording start codes rows [] running number now
+    → Writes (records_in codes rows) start now
+unfolding faulty_from ope_records behind_header
+recording_done all = none_left all.to_put
 
 -- by which records are put row by row
-pub ruleset recording = (recording_begun, order_room, recording_on, recording_done)
+pub ruleset recording = (recording_begun, order_room, order_few, recording_on, recording_done)

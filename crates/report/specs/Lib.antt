@@ -1,4 +1,5 @@
 -- In the order in which to read them.
+pub mod Refusal
 pub mod Lines
 pub mod Rkf
 pub mod Ope

@@ -3,5 +3,5 @@
 
 mod lines;
 pub mod ope;
-mod refusals;
+pub mod refusal;
 pub mod rkf;

@@ -8,6 +8,14 @@ use calendar::date::{Date, is_real};
 use calendar::time::is_clock_time;
 use write::Writer;
 
+// What a report's header says: what the report is called, when it was created, and the identifier of what it reports on.
+#[derive(Clone, Copy, Drop)]
+pub struct Header<'a> {
+    pub own: &'a [u8],
+    pub created: u64,
+    pub source: &'a [u8],
+}
+
 // How long a file is up to its header's last field, besides the two identifiers.
 pub const OPENING: usize = 37;
 
@@ -21,14 +29,14 @@ pub fn is_moment(n: u64) -> bool
 
 // Puts the byte mark and the header up to its last field. `start` is what comes before the file's own identifier.
 #[tactic(auto, using(write::proofs::Pieces::pieces), unfolding(crate::specs::Inner::Pieces::opening_text))]
-pub fn put_opening(output: &mut Writer, start: &[u8], own: &[u8], created: u64, source: &[u8])
-    requires { HasRoom (opening_text start.now own.now created source.now) output.old }
-    ensures { Writes (opening_text start.now own.now created source.now) output.old output.new }
+pub fn put_opening(output: &mut Writer, start: &[u8], header: &Header<'_>)
+    requires { HasRoom (opening_text start.now header.now.own.now header.now.created header.now.source.now) output.old }
+    ensures { Writes (opening_text start.now header.now.own.now header.now.created header.now.source.now) output.old output.new }
 {
     output.put_text(start);
-    output.put_field(own);
-    put_moment(output, created);
-    output.put_field(source);
+    output.put_field(header.own);
+    put_moment(output, header.created);
+    output.put_field(header.source);
 }
 
 // Puts when a file was created and what it reports on.
@@ -42,6 +50,7 @@ fn put_moment(output: &mut Writer, created: u64)
 }
 
 // Puts a record and the CR LF before it.
+// Kept: 1d: the code is a number of three digits, whichever the caller has for it.
 #[tactic(auto, using(write::proofs::Pieces::pieces), unfolding(crate::specs::Inner::Pieces::record_text))]
 pub fn put_record(output: &mut Writer, running: u64, order: u64, code: u64)
     requires { HasRoom (record_text running order code) output.old }

@@ -1,10 +1,11 @@
 -- A shipment's orders are added up one after the other: what is added, with what is still to add, is the whole.
 -- Assumes nothing.
-use mathlib.Core.Path.{◌≡◌, refl, sym, ap, ◌∙◌}
-use mathlib.Core.Bool.{Bool, true, false, cond}
-use mathlib.Core.List.{List, ◌∷◌}
-use Prim.Native.Nat.{ℕ, zero, suc, ◌+◌, ◌*◌, ◌-◌, ◌/◌, ◌%◌, ◌^◌, ◌≤◌, ◌<◌}
+use mathlib.Core.Path.{◌≡◌, sym, ap, ◌∙◌}
+use mathlib.Core.Bool.{Bool, true, false}
+use mathlib.Core.List.{List, [], ◌∷◌}
+use Prim.Native.Nat.{ℕ, zero, suc, ◌+◌, ◌*◌, ◌/◌, ◌%◌, ◌^◌, ◌≤◌, ◌<◌}
 use native.Mathlib.Omega.{arith}
+use lib.ListN.{length}
 use Rattle.money.specs.Money.{amount, fee, WithinSum}
 use Rattle.money.specs.declared.Amount.{Amount}
 use Rattle.money.specs.declared.Fee.{Fee}
@@ -12,13 +13,9 @@ use Rattle.money.specs.declared.Money.{Money}
 use Rattle.money.specs.declared.Money.TheVariants.{K, O}
 use Rattle.model.specs.Shipment.{most_rows, by_money, is_paired, only_if, sum_over, worth, holds}
 use Rattle.model.specs.declared.Row.{Row}
-use Rattle.memory.specs.Layout.{head_bytes, row_bytes}
-use Rattle.memory.specs.Rows.{row_of}
-use Rattle.memory.specs.Heads.{stage_in, order_count_in, shipment_in}
-use Rattle.memory.specs.Read.{rows_from, orders_at, shipment_at, Sits}
+use Rattle.memory.specs.Heads.{stage_in, shipment_in}
 use Rattle.memory.specs.Inner.Holdings.{holding_of}
-use Rattle.memory.proofs.Columns.{Adding, rows_on, rows_done, adding_begun, adding_on, adding_done}
-use Rattle.memory.proofs.HeadFields.{orders_are, paired_is}
+use Rattle.memory.proofs.Columns.{Adding, adding_begun, adding_on, adding_done}
 use Rattle.sheet.specs.declared.row.Parts.{Parts}
 use Rattle.sheet.specs.Inner.Parts.{held_by, no_parts, with_order, parts_of, whole_in, held_in, parts_once_paired, SmallParts}
 
@@ -88,110 +85,80 @@ module _ (parts : Parts) (row : Row) {own : Amount} {its_fee : Fee} {holding : �
   pub order_added : record { amounts = amounts; held = held; fees = fees; fees_held = fees_held } ≡ with_order parts row
   order_added = λ t. record { amounts = amounts_sum t; held = held_sum t; fees = fees_sum t; fees_held = fees_held_sum t }
 
--- The rows from the i-th on are left of the n from the k-th on.
-pub record Going (m : List ℕ) (k n : ℕ) (parts : Parts) (i : ℕ) : Type 0 where
-  pub whole : (money : Money) → Adding money m k n (whole_in money parts) i (k + n - i)
-  pub held : (money : Money) → held_in money parts + sum_over (held_by money) (rows_from m i (k + n - i)) ≡ sum_over (held_by money) (rows_from m k n)
+-- Rows are left of some.
+pub record Going (rows left : List Row) (parts : Parts) : Type 0 where
+  pub whole : (money : Money) → Adding money rows left (whole_in money parts)
+  pub held : (money : Money) → held_in money parts + sum_over (held_by money) left ≡ sum_over (held_by money) rows
   pub held_low : (money : Money) → held_in money parts ≤ whole_in money parts
 
-module _ {m : List ℕ} {k n : ℕ} where
-  pub begun : Going m k n no_parts k
+module _ {rows : List Row} where
+  pub begun : Going rows rows no_parts
   begun = record { whole = whole_begun; held = held_begun; held_low = low_begun }
     where
-      all : k + n - k ≡ n
-      all = omega arith
+      whole_begun : (money : Money) → Adding money rows rows (whole_in money no_parts)
+      whole_begun K = adding_begun
+      whole_begun O = adding_begun
 
-      whole_begun : (money : Money) → Adding money m k n (whole_in money no_parts) k (k + n - k)
-      whole_begun K = rw all adding_begun
-      whole_begun O = rw all adding_begun
-
-      held_begun : (money : Money) → held_in money no_parts + sum_over (held_by money) (rows_from m k (k + n - k)) ≡ sum_over (held_by money) (rows_from m k n)
-      held_begun K = rw all (omega arith)
-      held_begun O = rw all (omega arith)
+      held_begun : (money : Money) → held_in money no_parts + sum_over (held_by money) rows ≡ sum_over (held_by money) rows
+      held_begun K = omega arith
+      held_begun O = omega arith
 
       low_begun : (money : Money) → held_in money no_parts ≤ whole_in money no_parts
       low_begun K = omega arith
       low_begun O = omega arith
 
-  module _ {parts : Parts} {i : ℕ} (going : Going m k n parts i) where
-    -- the first of them
-    abbrev here : Row
-    here = row_of (row_bytes m i)
+  pub still_small : {row : Row} {left : List Row} {parts : Parts} → Going rows (row ∷ left) parts → length rows ≤ most_rows → SmallParts parts
+  still_small going few = record {
+    amounts = omega (arith, (going.whole K).low);
+    held = omega (arith, (going.whole K).low, going.held_low K);
+    fees = omega (arith, (going.whole O).low);
+    fees_held = omega (arith, (going.whole O).low, going.held_low O);
+  }
 
-    pub still_small : i < k + n → n ≤ most_rows → SmallParts parts
-    still_small more few = record {
-      amounts = omega (arith, (going.whole K).low);
-      held = omega (arith, (going.whole K).low, going.held_low K);
-      fees = omega (arith, (going.whole O).low);
-      fees_held = omega (arith, (going.whole O).low, going.held_low O);
-    }
+  pub one_more : {row : Row} {left : List Row} {parts next : Parts} → Going rows (row ∷ left) parts → next ≡ with_order parts row
+      → next.amounts.0 < parts.amounts.0 + 2 ^ 32 → next.fees.0 < parts.fees.0 + 2 ^ 32 → Going rows left next
+  one_more {row} {left} {parts} {next} going next_is amount_small fee_small = record { whole = whole_on; held = held_on; held_low = low_on }
+    where
+      whole_next : (money : Money) → whole_in money next ≡ whole_in money parts + worth money row
+      whole_next K = ap (whole_in K) next_is
+      whole_next O = ap (whole_in O) next_is
 
-    pub one_more : {next : Parts} → i < k + n → next ≡ with_order parts here
-        → next.amounts.0 < parts.amounts.0 + 2 ^ 32 → next.fees.0 < parts.fees.0 + 2 ^ 32 → Going m k n next (i + 1)
-    one_more {next} more next_is amount_small fee_small = record { whole = whole_on; held = held_on; held_low = low_on }
-      where
-        some : 0 < k + n - i
-        some = omega arith
+      held_next : (money : Money) → held_in money next ≡ held_in money parts + held_by money row
+      held_next K = ap (held_in K) next_is
+      held_next O = ap (held_in O) next_is
 
-        fewer : k + n - i - 1 ≡ k + n - (i + 1)
-        fewer = omega arith
+      small : (money : Money) → whole_in money next < whole_in money parts + 2 ^ 32
+      small K = amount_small
+      small O = fee_small
 
-        rows : rows_from m i (k + n - i) ≡ here ∷ rows_from m (i + 1) (k + n - (i + 1))
-        rows = rw fewer at (rows_on m i (k + n - i) some)
+      whole_on : (money : Money) → Adding money rows left (whole_in money next)
+      whole_on money = adding_on (going.whole money) (omega (arith, whole_next money, small money)) (whole_next money)
 
-        whole_next : (money : Money) → whole_in money next ≡ whole_in money parts + worth money here
-        whole_next K = ap (whole_in K) next_is
-        whole_next O = ap (whole_in O) next_is
+      held_on : (money : Money) → held_in money next + sum_over (held_by money) left ≡ sum_over (held_by money) rows
+      held_on money = omega (arith, going.held money, held_next money)
 
-        held_next : (money : Money) → held_in money next ≡ held_in money parts + held_by money here
-        held_next K = ap (held_in K) next_is
-        held_next O = ap (held_in O) next_is
+      low_on : (money : Money) → held_in money next ≤ whole_in money next
+      low_on money = omega (arith, going.held_low money, held_next money, whole_next money, at_most (holds money row.state) (worth money row))
 
-        small : (money : Money) → whole_in money next < whole_in money parts + 2 ^ 32
-        small K = amount_small
-        small O = fee_small
+  pub all_added : {parts : Parts} → Going rows [] parts → parts ≡ parts_of rows
+  all_added {parts} going =
+      let held_are : (money : Money) → held_in money parts ≡ sum_over (held_by money) rows = λ money. omega (arith, going.held money) in
+      λ t. record {
+        amounts = amount (adding_done (going.whole K) t);
+        held = amount (held_are K t);
+        fees = fee (adding_done (going.whole O) t);
+        fees_held = fee (held_are O t);
+      }
 
-        whole_on : (money : Money) → Adding money m k n (whole_in money next) (i + 1) (k + n - (i + 1))
-        whole_on money = rw fewer at (adding_on (going.whole money) some refl (omega (arith, whole_next money, small money)) (whole_next money))
+-- a shipment's parts, by its stage
+module _ (head : List ℕ) (rows : List Row) {paired : Bool} (is-paired : paired ≡ is_paired (stage_in head)) where
+  pub none_unpaired : paired ≡ false → no_parts ≡ parts_once_paired (shipment_in head rows)
+  unfolding parts_once_paired shipment_in
+  none_unpaired unpaired = rw (sym is-paired ∙ unpaired)
 
-        held_on : (money : Money) → held_in money next + sum_over (held_by money) (rows_from m (i + 1) (k + n - (i + 1))) ≡ sum_over (held_by money) (rows_from m k n)
-        held_on money = omega (arith, going.held money, held_next money, ap (sum_over (held_by money)) rows)
-
-        low_on : (money : Money) → held_in money next ≤ whole_in money next
-        low_on money = omega (arith, going.held_low money, held_next money, whole_next money, at_most (holds money here.state) (worth money here))
-
-    pub all_added : k + n ≤ i → parts ≡ parts_of (rows_from m k n)
-    all_added done =
-        let none : k + n - i ≤ 0 = omega arith in
-        let held_are : (money : Money) → held_in money parts ≡ sum_over (held_by money) (rows_from m k n)
-        = λ money. omega (arith, going.held money, ap (sum_over (held_by money)) (rows_done m i (k + n - i) none)) in
-        λ t. record {
-          amounts = amount (adding_done (going.whole K) none t);
-          held = amount (held_are K t);
-          fees = fee (adding_done (going.whole O) none t);
-          fees_held = fee (held_are O t);
-        }
-
--- the shipment at a place
-module _ (m : List ℕ) (i k : ℕ) {head : List ℕ} (is_head : head ≡ head_bytes m i) {paired : Bool}
-    (is-paired : paired ≡ is_paired (stage_in head)) where
-  paired_test : is_paired (shipment_at m i k).stage ≡ paired
-  paired_test = sym (is-paired ∙ paired_is m i k is_head)
-
-  pub none_unpaired : paired ≡ false → no_parts ≡ parts_once_paired (shipment_at m i k)
-  unfolding parts_once_paired
-  none_unpaired unpaired = ap (λ t. cond t no_parts no_parts) (sym (paired_test ∙ unpaired)) ∙ rw (paired_test ∙ unpaired)
-
-  module _ (sits : Sits m i k) {n : ℕ} (is_count : n ≡ order_count_in head) where
-    count_is : n ≡ orders_at m i
-    count_is = is_count ∙ orders_are m i k is_head
-
-    pub rows_there : k + n ≤ most_rows
-    rows_there = omega (arith, count_is, sits.room)
-
-    pub parts_paired : {parts : Parts} → paired ≡ true → parts ≡ parts_of (rows_from m k n) → parts ≡ parts_once_paired (shipment_at m i k)
-    unfolding parts_once_paired shipment_in
-    parts_paired together told = told ∙ rw (paired_test ∙ together) (ap (λ count. parts_of (rows_from m k count)) count_is)
+  pub parts_paired : {parts : Parts} → paired ≡ true → parts ≡ parts_of rows → parts ≡ parts_once_paired (shipment_in head rows)
+  unfolding parts_once_paired shipment_in
+  parts_paired together told = rw (sym is-paired ∙ together) told
 
 -- by which an order is added
 pub ruleset order_sums = (holding_most, part_fits, with_part_fits, with_part_within, order_added)
@@ -200,4 +167,4 @@ pub ruleset order_sums = (holding_most, part_fits, with_part_fits, with_part_wit
 pub ruleset going = (begun, still_small, one_more, all_added)
 
 -- and by the stage
-pub ruleset by_stage = (none_unpaired, rows_there, parts_paired)
+pub ruleset by_stage = (none_unpaired, parts_paired)

@@ -2,7 +2,6 @@
 -- Assumes nothing.
 use mathlib.Core.Path.{◌≡◌, refl, ap, ◌∙◌}
 use mathlib.Core.Bool.{Bool, true, false, cond}
-use mathlib.Core.List.{List}
 use Prim.Native.Nat.{ℕ, ◌+◌, ◌-◌, ◌≤◌}
 use native.Mathlib.Omega.{arith}
 use Rattle.money.specs.declared.Money.{Money}
@@ -10,10 +9,6 @@ use Rattle.money.specs.declared.Money.TheVariants.{K, O}
 use Rattle.model.specs.Shipment.{Shipment, accepted, returned, is_paired, sum_over, worth, need, need_once_paired, free, held}
 use Rattle.model.specs.Sound.{shipment_sound}
 use Rattle.model.proofs.SoundParts.{in_order}
-use Rattle.memory.specs.Layout.{head_bytes}
-use Rattle.memory.specs.Heads.{transfers_in, surplus_in}
-use Rattle.memory.specs.Read.{shipment_at, Sits}
-use Rattle.memory.proofs.HeadFields.{accepted_is, returned_is}
 use Rattle.sheet.specs.declared.row.Parts.{Parts}
 use Rattle.sheet.specs.Sheet.{left}
 use Rattle.sheet.specs.Inner.Parts.{held_by, no_parts, parts_of, whole_in, held_in, parts_once_paired, divided, division_of}
@@ -70,21 +65,11 @@ division_within_lem money s sound =
     let low = ((in_order s sound).moneys money).accepted_fits in
     record { first = omega arith; second = omega arith; third = omega arith; fourth = omega arith }
 
--- as code reads a head
-module _ (m : List ℕ) (i k : ℕ) (sits : Sits m i k) {head : List ℕ} (is_head : head ≡ head_bytes m i) (money : Money) {a r : ℕ}
-    (a_is : a ≡ transfers_in money head) (r_is : r ≡ surplus_in money head) {n h : ℕ}
-    (n_is : n ≡ need_once_paired money (shipment_at m i k)) (h_is : h ≡ held money (shipment_at m i k)) where
-  abbrev s : Shipment
-  s = shipment_at m i k
-
-  accepted_known : a ≡ accepted money s
-  accepted_known = a_is ∙ accepted_is m i k is_head money
-
-  returned_known : r ≡ returned money s
-  returned_known = r_is ∙ returned_is m i k is_head money
-
+-- as code divides
+module _ (s : Shipment) (sound : shipment_sound s ≡ true) (money : Money) {a r : ℕ} (a_is : a ≡ accepted money s) (r_is : r ≡ returned money s) {n h : ℕ}
+    (n_is : n ≡ need_once_paired money s) (h_is : h ≡ held money s) where
   pub division_is : divided a r n h ≡ division_of money s
-  division_is = (λ t. divided (accepted_known t) (returned_known t) (n_is t) (h_is t)) ∙ divided_is money s sits.sound
+  division_is = (λ t. divided (a_is t) (r_is t) (n_is t) (h_is t)) ∙ divided_is money s sound
 
 pub division_low : (s : Shipment) → shipment_sound s ≡ true → (money : Money) → {d : Division} → d ≡ division_of money s → DivisionWithin d
 division_low s sound money is = rw is (division_within_lem money s sound)

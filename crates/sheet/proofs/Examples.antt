@@ -4,14 +4,13 @@ use mathlib.Core.Path.{◌≡◌, refl}
 use mathlib.Core.List.{[], ◌∷◌, map}
 use mathlib.Core.Option.{Option, some, none}
 use Prim.Native.Nat.{ℕ}
+use Rattle.std.specs.Prelude.{Result, Ok, Err}
 use Rattle.epe.specs.Questions.{asked}
 use Rattle.money.specs.Money.{amount, fee}
 use Rattle.model.specs.Book.{Book}
 use Rattle.model.specs.Demand.{book_at}
 use Rattle.model.specs.Zs1.{calls, zs1}
 use Rattle.model.proofs.AboutZs1.{stepped}
-use Rattle.sheet.specs.declared.Sheeting.{Sheeting}
-use Rattle.sheet.specs.declared.Sheeting.TheVariants.{Filled, Refused}
 use Rattle.sheet.specs.declared.SheetRow.{SheetRow}
 use Rattle.sheet.specs.declared.Totals.{Totals}
 use Rattle.sheet.specs.Sheet.{left, row_for, plus_all, within_cap, sheet_of}
@@ -42,14 +41,14 @@ with_left n = record {
   fees = record { accepted = fee 0; held = fee 0; free = fee 0; left = fee n };
 }
 
-abbrev answer_to : Option Book → ℕ → Sheeting
+abbrev answer_to : Option Book → ℕ → Result ℕ ℕ
 answer_to book n = (sheet_of book [] (with_left n)).answer
 
 -- no book: 10. An empty book needs no row; its totals may be at the cap, and not above it, though nothing is added. One shipment needs a row: 25, and
 -- that is asked before the totals are.
 questions : answer_to none 0 ∷ answer_to (some []) 999_999_999_999_999 ∷ answer_to (some []) 1_000_000_000_000_000
     ∷ answer_to (some (book_at calls 17)) 0 ∷ answer_to (some (book_at calls 17)) 1_000_000_000_000_000 ∷ []
-    ≡ Refused 10 ∷ Filled 0 ∷ Refused 26 ∷ Refused 25 ∷ Refused 25 ∷ []
+    ≡ Err 10 ∷ Ok 0 ∷ Err 26 ∷ Err 25 ∷ Err 25 ∷ []
 unfolding stepped zs1 left row_for plus_all within_cap asked sheet_of
 questions = refl
 
@@ -58,6 +57,6 @@ blank = record { ident = zs1; amounts = (with_left 0).amounts; fees = (with_left
 
 -- O left of 1,050 more: 999,999,999,998,949 comes to the cap, and one grosz more passes it
 questions_with_row : map (λ n. (sheet_of (some (book_at calls 17)) (blank ∷ []) (with_left n)).answer) (999_999_999_998_949 ∷ 999_999_999_998_950 ∷ [])
-    ≡ Filled 1 ∷ Refused 26 ∷ []
+    ≡ Ok 1 ∷ Err 26 ∷ []
 unfolding stepped zs1 left row_for plus_all within_cap asked sheet_of
 questions_with_row = refl

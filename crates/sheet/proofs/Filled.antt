@@ -1,29 +1,34 @@
 -- A table filled row after row has the sheet's rows, and then its own; so what is asked, filled and stored is the sheet.
 -- Assumes nothing.
-use mathlib.Core.Path.{◌≡◌, refl, sym, ap, subst, ◌∙◌}
+use mathlib.Core.Path.{◌≡◌, refl, sym, ap, ◌∙◌}
 use mathlib.Core.Bool.{true, false}
 use mathlib.Core.List.{List, [], ◌∷◌, ◌++◌, map}
 use Prim.Native.Nat.{ℕ, zero, suc, ◌+◌, ◌-◌, ◌≤◌, ◌<◌}
 use native.Mathlib.Numerals.{add-one}
 use native.Mathlib.Omega.{arith}
-use borrow.Author.Tests.{leb-true, le-ltb}
-use lib.Dec.{leb, ltb}
+use borrow.Author.Tests.{le-leb, lt-leb}
+use lib.Dec.{leb}
 use lib.ListN.{length, drop, set, length-drop}
 use lib.Seq.{drop-drop}
-use Rattle.text.proofs.Branches.{either_way}
+use Rattle.std.specs.Prelude.{Option, None, Result, Ok}
+use Rattle.std.specs.Result.{result_ok}
 use Rattle.epe.specs.Questions.{asked}
-use Rattle.memory.specs.Layout.{size}
-use Rattle.memory.specs.Read.{shipments_from, shipments_in, book_in, sound_in, read_book}
-use Rattle.sound.proofs.ReadLaws.{sound_parts}
-use Rattle.sheet.specs.declared.Plan.{Plan}
-use Rattle.sheet.specs.declared.Sheeting.{Sheeting}
-use Rattle.sheet.specs.declared.Sheeting.TheVariants.{Filled}
+use Rattle.model.specs.declared.Row.{Row}
+use Rattle.memory.specs.Heads.{shipment_in}
+use Rattle.memory.specs.Read.{shipment_at, shipments_from, shipments_in, book_in, sound_in, read_book}
+use Rattle.memory.proofs.HeadFields.{orders_are}
+use Rattle.sound.proofs.ReadLaws.{shipments_many}
+use Rattle.sheet.specs.declared.refusal.Refusal.{Refusal}
 use Rattle.sheet.specs.declared.SheetRow.{SheetRow}
 use Rattle.sheet.specs.declared.Totals.{Totals}
-use Rattle.sheet.specs.Sheet.{row_for, plus_all, within_cap, sheet_of}
-use Rattle.sheet.specs.Inner.Filling.{Stands, plan_of, rows_to_fill, answer_of, start_of, row_in, filled_to, Fillable}
+use Rattle.sheet.specs.Sheet.{row_for, plus_all, no_sheet, sheet_of}
+use Rattle.sheet.specs.Inner.Filling.{Stands, if_within, start_of, row_in, filled_to, Fillable}
 use Rattle.sheet.proofs.Standing.{stands_first, sits_here, stands_next}
-use Rattle.sheet.proofs.Planning.{book_long}
+use Rattle.sheet.proofs.Totalling.{said_none, said_some}
+
+book_long : (m : List ℕ) → length (book_in m) ≡ shipments_in m
+unfolding book_in
+book_long m = shipments_many m 0 0 (shipments_in m)
 
 -- the rows of n shipments from the i-th on
 rows_over : List ℕ → ℕ → ℕ → List SheetRow
@@ -82,88 +87,50 @@ stands_at m (suc i) sound within =
     let here = stands_at m i sound (omega arith) in
     rw add-one at (stands_next here (omega arith) refl)
 
--- what the questions come to, case by case
+-- as code fills one row more, of the shipment at the place that it has come to
+module _ (m : List ℕ) (i k : ℕ) (head : List ℕ) (rows : List Row) (is : shipment_in head rows ≡ shipment_at m i k) (here : k ≡ start_of m i) where
+  pub begins_next : {count : ℕ} → count ≡ length rows → k + count ≡ start_of m (i + 1)
+  begins_next many = rw add-one (λ t. here t + orders_are m i k head rows is many t)
+
+  pub fills_next : (table : List SheetRow) {row : SheetRow} {filled : List SheetRow} → row ≡ row_for (shipment_in head rows) → filled ≡ filled_to m i table
+      → set filled i row ≡ filled_to m (i + 1) table
+  fills_next table is_row are = let one = is_row ∙ ap row_for (is ∙ ap (shipment_at m i) here) in rw add-one (λ t. set (are t) i (one t))
+
+-- each shipment of a sound book has a row to fill
+pub can_fill : (m : List ℕ) (table : List SheetRow) {n : ℕ} → sound_in m ≡ true → n ≡ shipments_in m → n ≤ length table → Fillable m (length table) n
+can_fill m table sound is_all enough =
+    rw is_all (record { within = omega arith; sits = λ i below. sits_here (stands_at m i sound (omega arith)) (omega arith) })
+
+-- what is asked of a sheet, in order, and what is then filled
 module _ (m : List ℕ) (table : List SheetRow) (totals : Totals) where
-  abbrev room : ℕ
-  room = length table
+  pub no_book : sound_in m ≡ false → no_sheet table totals 10 ≡ sheet_of (read_book m) table totals
+  unfolding sheet_of read_book
+  no_book unsound = rw unsound
 
-  abbrev rows : Plan → ℕ
-  rows plan = rows_to_fill m plan.number
+  module _ (sound : sound_in m ≡ true) {n : ℕ} (is_all : n ≡ shipments_in m) where
+    abbrev sums : Totals
+    sums = plus_all totals (map row_for (book_in m))
 
-  pub record Comes (plan : Plan) : Type 0 where
-    pub fillable : Fillable m room (rows plan)
-    pub sheet_is : record { answer = answer_of (rows plan) plan.number; table = filled_to m (rows plan) table; totals = plan.totals }
-        ≡ sheet_of (read_book m) table totals
+    pub no_room : length table < n → no_sheet table totals 25 ≡ sheet_of (read_book m) table totals
+    unfolding sheet_of read_book asked
+    no_room short = rw (sound, lt-leb (length (book_in m)) (length table) (omega (arith, book_long m, is_all, short)))
 
-  none_filled : Fillable m room 0
-  none_filled = record { within = omega arith; sits = λ i below. absurd (omega arith) }
+    module _ (enough : n ≤ length table) {added : Option Totals} (is_added : added ≡ if_within sums) where
+      fits : leb (length (book_in m)) (length table) ≡ true
+      fits = le-leb (length (book_in m)) (length table) (omega (arith, book_long m, is_all, enough))
 
-  unread : sound_in m ≡ false → Comes (record { number = 10; totals = totals })
-  unfolding rows_to_fill answer_of sheet_of read_book
-  unread unsound = record { fillable = none_filled; sheet_is = rw unsound }
+      pub above_cap : added ≡ None → no_sheet table totals 26 ≡ sheet_of (read_book m) table totals
+      unfolding sheet_of read_book asked
+      above_cap none = rw (sound, fits, said_none sums (sym none ∙ is_added))
 
-  module _ (sound : sound_in m ≡ true) where
-    too_many : leb (length (book_in m)) room ≡ false → Comes (record { number = 25; totals = totals })
-    unfolding rows_to_fill answer_of sheet_of read_book asked
-    too_many short = record { fillable = none_filled; sheet_is = rw (sound, short) }
+      pub is_filled : {found : Result Totals Refusal} {next : Totals} {filled : List SheetRow} → added ≡ result_ok found → found ≡ Ok next → filled ≡ filled_to m n table
+          → record { answer = Ok n; table = filled; totals = next } ≡ sheet_of (read_book m) table totals
+      unfolding sheet_of read_book asked
+      is_filled is_found some rows =
+          let told = said_some sums (sym (is_found ∙ ap result_ok some) ∙ is_added) in
+          let long = is_all ∙ sym (book_long m) in
+          let all = rows ∙ ap (λ k. filled_to m k table) is_all ∙ filled_book m table (omega arith) in
+          rw (sound, fits, told.0) (λ t. record { answer = Ok (long t); table = all t; totals = told.1 t })
 
-    module _ (fits : leb (length (book_in m)) room ≡ true) where
-      too_much : within_cap (plus_all totals (map row_for (book_in m))) ≡ false → Comes (record { number = 26; totals = totals })
-      unfolding rows_to_fill answer_of sheet_of read_book asked
-      too_much above = record { fillable = none_filled; sheet_is = rw (sound, fits, above) }
-
-      enough : shipments_in m ≤ room
-      enough = omega (arith, book_long m, leb-true (length (book_in m)) room fits)
-
-      all_filled : Fillable m room (shipments_in m)
-      all_filled = record { within = enough; sits = λ i below. sits_here (stands_at m i sound (omega arith)) (omega arith) }
-
-      long : ltb (length m) size ≡ false
-      long = le-ltb (length m) size (sound_parts m sound).enough
-
-      none_refused : within_cap (plus_all totals (map row_for (book_in m))) ≡ true
-          → Comes (record { number = 0; totals = plus_all totals (map row_for (book_in m)) })
-      unfolding rows_to_fill answer_of sheet_of read_book asked
-      none_refused within =
-          let count = book_long m in
-          let many = sym count in
-          record {
-            fillable = rw long all_filled;
-            sheet_is =
-                rw (sound, fits, within, long)
-                (λ t. record {
-                  answer = Filled (many t);
-                  table = filled_book m table enough t;
-                  totals = plus_all totals (map row_for (book_in m));
-                });
-          }
-
-  pub comes : Comes (plan_of (read_book m) room totals)
-  unfolding plan_of read_book
-  comes =
-      either_way (sound_in m)
-      (λ sound.
-      either_way (leb (length (book_in m)) room)
-      (λ fits.
-      either_way (within_cap (plus_all totals (map row_for (book_in m))))
-      (λ within. subst Comes (sym (rw (sound, fits, within))) (none_refused sound fits within))
-      (λ above. subst Comes (sym (rw (sound, fits, above))) (too_much sound fits above)))
-      (λ short. subst Comes (sym (rw (sound, short))) (too_many sound short)))
-      (λ unsound. subst Comes (sym (rw unsound)) (unread unsound))
-
--- as code goes: the number, then how many rows, then the rows
-module _ (m : List ℕ) (table : List SheetRow) (totals : Totals) {number n : ℕ} (asked : number ≡ (plan_of (read_book m) (length table) totals).number)
-    (counted : n ≡ rows_to_fill m number) where
-  count_is : n ≡ rows_to_fill m (plan_of (read_book m) (length table) totals).number
-  count_is = counted ∙ ap (rows_to_fill m) asked
-
-  pub can_fill : Fillable m (length table) n
-  can_fill = subst (Fillable m (length table)) (sym count_is) (comes m table totals).fillable
-
-  pub sheet_done : {filled : List SheetRow} {sums : Totals} {answer : Sheeting} → sums ≡ (plan_of (read_book m) (length table) totals).totals
-      → filled ≡ filled_to m n table → answer ≡ answer_of n number
-      → record { answer = answer; table = filled; totals = sums } ≡ sheet_of (read_book m) table totals
-  sheet_done added all_filled answered =
-      let rows_are = all_filled ∙ ap (λ k. filled_to m k table) count_is in
-      let answer_is = answered ∙ (λ t. answer_of (count_is t) (asked t)) in
-      (λ t. record { answer = answer_is t; table = rows_are t; totals = added t }) ∙ (comes m table totals).sheet_is
+-- by which a sheet answers
+pub ruleset sheets = (no_book, no_room, above_cap, can_fill, is_filled)

@@ -4,6 +4,5 @@ pub mod Adding
 pub mod Dividing
 pub mod Standing
 pub mod Totalling
-pub mod Planning
 pub mod Filled
 pub mod Examples

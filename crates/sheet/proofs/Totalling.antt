@@ -2,11 +2,12 @@
 -- come to with all, and a total past the cap stays past it.
 -- Assumes nothing.
 use mathlib.Core.Path.{◌≡◌, refl, sym, ap, ◌∙◌}
-use mathlib.Core.Bool.{true, false, cond, false≢true}
+use mathlib.Core.Bool.{true, false, false≢true}
 use mathlib.Core.List.{List, [], ◌∷◌, map}
 use Prim.Native.Nat.{ℕ, ◌+◌, ◌-◌, ◌≤◌, ◌<◌}
 use native.Mathlib.Omega.{arith}
 use borrow.Author.Tests.{leb-true, le-leb}
+use Rattle.std.specs.Prelude.{Option, Some, None}
 use Rattle.text.proofs.Branches.{and_left, and_right, both_yes, either_way}
 use Rattle.money.specs.Money.{total_cap}
 use Rattle.money.specs.declared.Money.TheVariants.{K, O}
@@ -16,10 +17,8 @@ use Rattle.model.proofs.SoundParts.{halves}
 use Rattle.memory.specs.Read.{orders_at, shipment_at, shipments_from, shipments_in, book_in, sound_in}
 use Rattle.sheet.specs.declared.SheetRow.{SheetRow}
 use Rattle.sheet.specs.declared.Totals.{Totals}
-use Rattle.sheet.specs.declared.total.Adding.{Adding}
-use Rattle.sheet.specs.declared.total.Adding.TheVariants.{Added, Above}
 use Rattle.sheet.specs.Sheet.{row_for, plus, plus_all, four_within, amounts_within, fees_within, within_cap}
-use Rattle.sheet.specs.Inner.Filling.{Stands, Within, TotalsWithin, RowWithin, adding_of}
+use Rattle.sheet.specs.Inner.Filling.{Stands, Within, TotalsWithin, RowWithin, if_within}
 use Rattle.sheet.proofs.Dividing.{division_within_lem}
 use Rattle.sheet.proofs.Standing.{stands_first, sits_here, stands_next, row_then, rows_end}
 
@@ -72,16 +71,36 @@ was_within totals (row ∷ rows) h =
     within_cap_holds totals
     (lower after.0 (omega arith) (omega arith) (omega arith) (omega arith), lower after.1 (omega arith) (omega arith) (omega arith) (omega arith))
 
--- what an addition says, by what all the rows come to
-abbrev adding_to : Totals → Adding
-adding_to sums = cond (within_cap sums) (Added sums) Above
+-- totals of which one is above the cap, and totals with which none is
+pub above_cap : (totals : Totals) → within_cap totals ≡ false → None ≡ if_within totals
+unfolding if_within
+above_cap totals above = rw above
 
-pub above_already : (totals : Totals) (rows : List SheetRow) → within_cap totals ≡ false → Above ≡ adding_of totals rows
-unfolding adding_of
+pub below_cap : (totals : Totals) → within_cap totals ≡ true → Some totals ≡ if_within totals
+unfolding if_within
+below_cap totals within = rw within
+
+-- and what it says that there are such, or none
+never : {sums : Totals} → ◌≡◌ {A = Option Totals} None (Some sums) → ⊥
+never same = let apart : ◌≡◌ {A = ℕ} 0 1 = cc in absurd (omega arith)
+
+module _ (totals : Totals) where
+  pub said_none : None ≡ if_within totals → within_cap totals ≡ false
+  unfolding if_within
+  said_none is = either_way (within_cap totals) (λ within. absurd (never (rw within at is))) (λ above. above)
+
+  pub said_some : {sums : Totals} → Some sums ≡ if_within totals → (within_cap totals ≡ true) × (sums ≡ totals)
+  unfolding if_within
+  said_some is =
+      either_way (within_cap totals)
+      (λ within. (within, let same = rw within at is in cc))
+      (λ above. absurd (never (sym (rw above at is))))
+
+pub above_already : (totals : Totals) (rows : List SheetRow) → within_cap totals ≡ false → None ≡ if_within (plus_all totals rows)
 above_already totals rows above =
     either_way (within_cap (plus_all totals rows))
     (λ within. absurd (false≢true (sym above ∙ was_within totals rows within)))
-    (λ over. rw over)
+    (λ over. above_cap (plus_all totals rows) over)
 
 -- The rows of the shipments from the i-th on are left to add.
 pub record Summing (m : List ℕ) (totals sums : Totals) (i k n : ℕ) : Type 0 where
@@ -109,21 +128,21 @@ module _ {m : List ℕ} {totals : Totals} where
       unfolding plus_all
       whole_after is_count = rw is_row (ap (plus_all sums) (sym (row_then summing.stands more is_count)) ∙ summing.whole)
 
-      pub above_here : within_cap (plus sums row) ≡ false → Above ≡ adding_of totals (map row_for (book_in m))
-      unfolding adding_of
-      above_here above = above_already (plus sums row) (after (orders_at m i)) above ∙ ap adding_to (whole_after refl)
+      pub above_here : {added : Option Totals} → added ≡ if_within (plus sums row) → added ≡ None → None ≡ if_within (plus_all totals (map row_for (book_in m)))
+      above_here is none =
+          above_already (plus sums row) (after (orders_at m i)) (said_none (plus sums row) (sym none ∙ is)) ∙ ap if_within (whole_after refl)
 
-      pub summing_on : {next : Totals} {count : ℕ} → within_cap (plus sums row) ≡ true → next ≡ plus sums row → count ≡ orders_at m i
+      pub summing_on : {added : Option Totals} {next : Totals} {count : ℕ} → added ≡ if_within (plus sums row) → added ≡ Some next → count ≡ orders_at m i
           → Summing m totals next (i + 1) (k + count) n
-      summing_on within is_next is_count =
-          rw is_next (record { stands = stands_next summing.stands more is_count; whole = whole_after is_count; within = within })
+      summing_on is some is_count =
+          let told = said_some (plus sums row) (sym some ∙ is) in
+          rw told.1 (record { stands = stands_next summing.stands more is_count; whole = whole_after is_count; within = told.0 })
 
-    pub all_summed : n ≤ i → Added sums ≡ adding_of totals (map row_for (book_in m))
-    unfolding plus_all adding_of
+    pub all_summed : n ≤ i → Some sums ≡ if_within (plus_all totals (map row_for (book_in m)))
+    unfolding plus_all
     all_summed done =
         let are : sums ≡ plus_all totals (map row_for (book_in m)) = ap (plus_all sums) (sym (rows_end m i k n done)) ∙ summing.whole in
-        let here : Added sums ≡ adding_to sums = rw summing.within in
-        here ∙ ap adding_to are
+        below_cap sums summing.within ∙ ap if_within are
 
 -- by which rows are added up
 pub ruleset summing = (cap_within, above_already, summing_begun, row_low, above_here, summing_on, all_summed)

@@ -1,6 +1,6 @@
 -- The balance sheet: a row to a shipment, and totals. Document 01, "The balance sheet". Since document 02's A5 ("Earned and returned fees are each
 -- order's own from here on, ..") F is each order's own fee.
-use Rattle.std.specs.Prelude.{◌≡◌, Bool, true, false, not, ◌&&◌, ◌||◌, List, [], ◌∷◌, ◌++◌, map, ℕ, ◌+◌, leb, length, drop}
+use Rattle.std.specs.Prelude.{◌≡◌, Bool, true, false, not, ◌&&◌, ◌||◌, List, [], ◌∷◌, ◌++◌, map, ℕ, ◌+◌, leb, length, drop, Result, Ok, Err}
 use Rattle.std.proofs.Math.Option.{Option, some, none}
 use Rattle.money.specs.Money.{amount, fee, is_total}
 use Rattle.money.specs.declared.Money.{Money}
@@ -18,8 +18,6 @@ use Rattle.model.specs.declared.State.{State}
 use Rattle.model.specs.declared.State.TheVariants.{Open, Posted, Paid, Faulty, Undelivered, Withdrawn}
 use Rattle.sheet.specs.declared.Amounts.{Amounts}
 use Rattle.sheet.specs.declared.Fees.{Fees}
-use Rattle.sheet.specs.declared.Sheeting.{Sheeting}
-use Rattle.sheet.specs.declared.Sheeting.TheVariants.{Filled, Refused}
 use Rattle.sheet.specs.declared.SheetRow.{SheetRow}
 use Rattle.sheet.specs.declared.Totals.{Totals}
 
@@ -99,15 +97,15 @@ fees_within a = four_within a.accepted.0 a.held.0 a.free.0 a.left.0
 unfoldable pub within_cap : Totals → Bool
 within_cap totals = amounts_within totals.amounts && fees_within totals.fees
 
--- What a sheet answers, and what it leaves of the table and the totals.
+-- What a sheet answers, so many rows or the number of the question answered no, and what it leaves of the table and the totals.
 pub record Sheet : Type 0 where
-  pub answer : Sheeting
+  pub answer : Result ℕ ℕ
   pub table : List SheetRow
   pub totals : Totals
 
 -- A question answered no: its number is the answer, and the table and the totals are as they were.
 abbrev pub no_sheet : List SheetRow → Totals → ℕ → Sheet
-no_sheet table totals number = record { answer = Refused number; table = table; totals = totals }
+no_sheet table totals number = record { answer = Err number; table = table; totals = totals }
 
 -- "After 10: table has a row for each shipment? 25. After adding, no total above 999,999,999,999,999? 26. Rows past the last are untouched."
 unfoldable pub sheet_of : Option Book → List SheetRow → Totals → Sheet
@@ -115,7 +113,7 @@ sheet_of none table totals = no_sheet table totals 10
 sheet_of (some book) table totals =
     asked ((leb (length book) (length table) else_no 25) ∷ (within_cap (plus_all totals (map row_for book)) else_no 26) ∷ []) (no_sheet table totals)
     (record {
-      answer = Filled (length book);
+      answer = Ok (length book);
       table = map row_for book ++ drop (length book) table;
       totals = plus_all totals (map row_for book);
     })

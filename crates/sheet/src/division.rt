@@ -7,6 +7,7 @@ use crate::{Amounts, Fees};
 use money::{Amount, Fee, Grosze};
 
 // What was accepted of a money is divided: what is held, what is free, and the rest has left.
+// Kept: 6d: four sums, each under its name, in grosze of either money.
 // Kept: 2b: the C interface has Amounts and Fees, two structs of two types of money that are not added to each other.
 #[derive(Clone, Copy)]
 pub struct Division {
@@ -98,6 +99,7 @@ impl Fees {
     }
 
     // Its sums.
+    // Kept: 2a: the C interface has two structs, and these two functions are where each gives its four sums.
     pub fn sums(self) -> Division
         ensures { result ≡ fees_in self }
     {

@@ -1,9 +1,7 @@
 // A row of the sheet. A shipment's orders are passed once; what has left is what was accepted, less what is held and what is free.
-ghost use Rattle.std.specs.Prelude.{◌≡◌, ◌+◌, ◌≤◌, ◌<◌, ◌^◌, length};
-ghost use Rattle.model.specs.Shipment.{most_rows, need_once_paired, held};
-ghost use Rattle.memory.specs.Layout.{size, row_bytes};
-ghost use Rattle.memory.specs.Rows.{row_of};
-ghost use Rattle.memory.specs.Read.{rows_from, shipment_at, Sits};
+ghost use Rattle.std.specs.Prelude.{◌≡◌, ◌+◌, ◌<◌, ◌^◌};
+ghost use Rattle.model.specs.Shipment.{need_once_paired, held};
+ghost use Rattle.memory.specs.Lent.{shipment_of};
 ghost use Rattle.memory.specs.Inner.Holdings.{holding_table};
 ghost use Rattle.sheet.specs.Sheet.{row_for};
 ghost use Rattle.sheet.specs.Inner.Parts.{no_parts, with_order, parts_of, parts_once_paired, SmallParts, division_of};
@@ -11,11 +9,10 @@ ghost use Rattle.sheet.specs.Inner.Filling.{DivisionWithin};
 
 use crate::division::Division;
 use crate::{Amounts, Fees, SheetRow};
-use memory::head::{accepted, head_bytes, is_paired, orders, returned};
-use memory::holding::{holding, holding_table};
-use memory::name::ident;
-use memory::place::Place;
-use memory::row::{amount, fee};
+use memory::holding::holding_table;
+use memory::row::LentRow;
+use memory::rows::Rows;
+use memory::shipment::LentShipment;
 use money::{Amount, Fee, Grosze, Money};
 
 // Of orders: all their amounts, the amounts held, all their fees, and the fees held.
@@ -27,16 +24,14 @@ pub struct Parts {
     pub fees_held: Fee,
 }
 
-// The row of the shipment at a place.
-#[tactic(auto, using(crate::proofs::Dividing::all_needed, crate::proofs::Dividing::all_held), unfolding(memory::specs::Heads::shipment_in, crate::specs::Sheet::row_for))]
-pub fn row_at(memory: &[u8], place: Place) -> SheetRow
-    requires { Sits memory.now place.head place.row }
-    ensures { result ≡ row_for (shipment_at memory.now place.head place.row) }
+// The row of a shipment.
+pub fn row_for(shipment: &LentShipment) -> SheetRow
+    ensures { result ≡ row_for (shipment_of shipment.now) }
 {
-    let parts = parts_at(memory, place);
-    let ident = ident(head_bytes(memory, place.head));
-    let amounts = division_at(memory, place, Money::K, parts.amounts.0, parts.held.0);
-    let fees = division_at(memory, place, Money::O, parts.fees.0, parts.fees_held.0);
+    let parts = parts_for(shipment);
+    let ident = shipment.head.ident();
+    let amounts = division_for(shipment, Money::K, parts.amounts.0, parts.held.0);
+    let fees = division_for(shipment, Money::O, parts.fees.0, parts.fees_held.0);
     SheetRow {
         ident,
         amounts: Amounts::of(amounts),
@@ -44,29 +39,25 @@ pub fn row_at(memory: &[u8], place: Place) -> SheetRow
     }
 }
 
-// The parts of the shipment at a place; none unless it is Paired.
+// The parts of a shipment; none unless it is Paired.
 #[tactic(auto, using(crate::proofs::Adding::by_stage))]
-fn parts_at(memory: &[u8], place: Place) -> Parts
-    requires { Sits memory.now place.head place.row }
-    ensures { result ≡ parts_once_paired (shipment_at memory.now place.head place.row) }
+fn parts_for(shipment: &LentShipment) -> Parts
+    ensures { result ≡ parts_once_paired (shipment_of shipment.now) }
 {
-    let head = head_bytes(memory, place.head);
-    if !is_paired(head) {
+    if !shipment.head.is_paired() {
         return no_parts();
     }
-    parts_of(memory, place.row, orders(head) as usize)
+    parts_of(&shipment.rows)
 }
 
-// What was accepted of a money in the shipment at a place, divided by what its orders need and hold: each order needs its own worth, and holds it or not.
-#[tactic(auto, using(memory::proofs::HeadFields::accepted_within, memory::proofs::HeadFields::returned_within))]
-fn division_at(memory: &[u8], place: Place, money: Money, needs: u64, holds: u64) -> Division
-    requires { Sits memory.now place.head place.row × (needs ≡ need_once_paired money (shipment_at memory.now place.head place.row)) × (holds ≡ held money (shipment_at memory.now place.head place.row)) }
-    ensures value { result ≡ division_of money (shipment_at memory.now place.head place.row) }
+// What was accepted of a money in a shipment, divided by what its orders need and hold: each order needs its own worth, and holds it or not.
+fn division_for(shipment: &LentShipment, money: Money, needs: u64, holds: u64) -> Division
+    requires { (needs ≡ need_once_paired money (shipment_of shipment.now)) × (holds ≡ held money (shipment_of shipment.now)) }
+    ensures value { result ≡ division_of money (shipment_of shipment.now) }
     ensures within { DivisionWithin result }
 {
-    let head = head_bytes(memory, place.head);
-    let accepted = accepted(head, money).grosze();
-    let returned = returned(head, money).grosze();
+    let accepted = shipment.accepted(money).grosze();
+    let returned = shipment.returned(money).grosze();
     Division::of(accepted, returned, needs, holds)
 }
 
@@ -84,29 +75,29 @@ fn no_parts() -> Parts
     }
 }
 
-// The parts of the n rows from the k-th on.
+// The parts of some rows.
 #[tactic(auto, using(crate::proofs::Adding::going))]
-fn parts_of(memory: &[u8], k: usize, n: usize) -> Parts
-    requires { (k + n ≤ most_rows) × (size ≤ length memory.now) }
-    ensures { result ≡ parts_of (rows_from memory.now k n) }
+fn parts_of(rows: &Rows) -> Parts
+    ensures { result ≡ parts_of rows.now }
 {
     let table = holding_table();
     let mut parts = no_parts();
-    for i in k..k + n {
-        parts = with_order(parts, memory, i, &table);
+    for row in rows {
+        parts = with_order(parts, &row, &table);
     }
     parts
 }
 
-// The parts with the order of row k.
+// The parts with the order of a row.
+// Kept: 6d: the table is made once, by memory, and lent.
 #[tactic(auto, using(crate::proofs::Adding::order_sums))]
-fn with_order(parts: Parts, memory: &[u8], k: usize, table: &[u64]) -> Parts
-    requires { (k < most_rows) × (size ≤ length memory.now) × (table.now ≡ holding_table) × SmallParts parts }
-    ensures { (result ≡ with_order parts (row_of (row_bytes memory.now k))) × (result.amounts.0 < parts.amounts.0 + 2 ^ 32) × (result.fees.0 < parts.fees.0 + 2 ^ 32) }
+fn with_order(parts: Parts, row: &LentRow, table: &[u64]) -> Parts
+    requires { (table.now ≡ holding_table) × SmallParts parts }
+    ensures { (result ≡ with_order parts row.now) × (result.amounts.0 < parts.amounts.0 + 2 ^ 32) × (result.fees.0 < parts.fees.0 + 2 ^ 32) }
 {
-    let amount = amount(memory, k);
-    let fee = fee(memory, k);
-    let holding = holding(memory, k, table);
+    let amount = row.amount();
+    let fee = row.fee();
+    let holding = row.holding(table);
     let amount_held = amount.0 * (holding % 2);
     let fee_held = fee.0 * (holding / 2);
     let amounts = Amount::sum(parts.amounts.0 + amount.0);

@@ -23,7 +23,7 @@ use Rattle.sound.specs.declared.tally.Tally.{Tally}
 use Rattle.sound.specs.Inner.Charges.{Charged}
 use Rattle.sound.specs.Inner.Tally.{tally_of, Tallied, paired_in, waiting_in, rows_fit, go_ahead_fits, is_covered, money_fits, moneys_fit, judged, JudgedIsSound}
 use Rattle.sound.specs.Inner.Walk.{sound_at}
-use Rattle.sound.proofs.ReadLaws.{rows_many}
+use Rattle.memory.proofs.Columns.{rows_many}
 use Rattle.sound.proofs.RowClasses.{rows_fit_lem, any_faulty_lem}
 
 -- the two questions of the go-ahead as one

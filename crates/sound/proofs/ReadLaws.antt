@@ -13,14 +13,10 @@ use Rattle.model.specs.Sound.{shipments_sound, sound}
 use Rattle.model.proofs.SoundParts.{halves}
 use Rattle.memory.specs.Layout.{size}
 use Rattle.memory.specs.Heads.{shipment_in}
-use Rattle.memory.specs.Read.{rows_from, orders_at, shipments_from, flags_from, shipments_in, book_in, sound_in}
+use Rattle.memory.specs.Read.{orders_at, shipments_from, flags_from, shipments_in, book_in, sound_in}
+use Rattle.memory.proofs.Columns.{rows_many}
 
 module _ (m : List ℕ) where
-  pub rows_many : (k n : ℕ) → length (rows_from m k n) ≡ n
-  unfolding rows_from
-  rows_many k zero = refl
-  rows_many k (suc n) = ap suc (rows_many (suc k) n)
-
   pub shipments_many : (i k n : ℕ) → length (shipments_from m i k n) ≡ n
   unfolding shipments_from
   shipments_many i k zero = refl
@@ -29,7 +25,7 @@ module _ (m : List ℕ) where
   -- the rows of one shipment, and of those after it
   pub rows_next : (i k n : ℕ) → rows_in (shipments_from m i k (suc n)) ≡ orders_at m i + rows_in (shipments_from m (suc i) (k + orders_at m i) n)
   unfolding shipments_from shipment_in
-  rows_next i k n = ap (λ rows. rows + rows_in (shipments_from m (suc i) (k + orders_at m i) n)) (rows_many k (orders_at m i))
+  rows_next i k n = ap (λ rows. rows + rows_in (shipments_from m (suc i) (k + orders_at m i) n)) (rows_many m k (orders_at m i))
 
 pub record SoundParts (m : List ℕ) : Type 0 where
   pub enough : size ≤ length m

@@ -4,7 +4,7 @@
 use mathlib.Core.Path.{◌≡◌, refl, sym, ap, subst, ◌∙◌}
 use mathlib.Core.Bool.{Bool, true, false, ◌&&◌, and_assoc}
 use mathlib.Core.List.{List, [], ◌∷◌}
-use Prim.Native.Nat.{ℕ, ◌+◌, ◌*◌, ◌-◌, ◌≤◌, ◌<◌}
+use Prim.Native.Nat.{ℕ, ◌*◌, ◌≤◌}
 use native.Mathlib.Nat.{suc-mul, mul-le-mul}
 use native.Mathlib.Omega.{arith}
 use borrow.Author.Tests.{eqb-true, eq-eqb, le-leb}
@@ -13,6 +13,7 @@ use lib.Dec.{eqb}
 use lib.ListN.{length}
 use Rattle.text.proofs.Branches.{and_left, and_right, both_yes, both_ways}
 use Rattle.money.specs.Money.{amount, fee, order_cap, WithinOrder, WithinSum}
+use Rattle.money.specs.declared.Amount.{Amount}
 use Rattle.money.specs.declared.Fee.{Fee}
 use Rattle.money.specs.declared.Money.TheVariants.{K, O}
 use Rattle.fee.specs.Fee.{rate, divides}
@@ -22,63 +23,24 @@ use Rattle.epe.specs.Profile.{each}
 use Rattle.model.specs.Shipment.{most_rows, sum_over, worth}
 use Rattle.model.specs.Sound.{row_charged}
 use Rattle.model.specs.declared.Row.{Row}
-use Rattle.memory.specs.Layout.{row_bytes}
-use Rattle.memory.specs.Rows.{row_of}
-use Rattle.memory.specs.Read.{rows_from}
-use Rattle.memory.specs.Inner.Classes.{class_of}
-use Rattle.memory.proofs.Columns.{rows_on, rows_done, Adding, adding_begun, adding_next, adding_done, adding_within}
-use Rattle.sound.specs.declared.charges.Charges.{Charges}
+use Rattle.memory.proofs.Columns.{Adding, adding_begun, adding_on, adding_done, adding_within}
 use Rattle.sound.specs.declared.charges.Products.{Products}
 use Rattle.sound.specs.Inner.Charges.{amount_fits, fee_fits, remainder_fits, is_flat, has_none, difference_of, is_even, Charged, Multiplied, WithProduct, SmallProducts}
-use Rattle.sound.specs.Inner.Tally.{joined}
-use Rattle.sound.proofs.ReadLaws.{rows_many}
-
--- The rows from the i-th on, up to an end.
-rows_more : (m : List ℕ) (i end : ℕ) → i < end → rows_from m i (end - i) ≡ row_of (row_bytes m i) ∷ rows_from m (i + 1) (end - (i + 1))
-rows_more m i end more =
-    let fewer : end - i - 1 ≡ end - (i + 1) = omega arith in
-    rw fewer at (rows_on m i (end - i) (omega arith))
-
-rows_none : (m : List ℕ) (i end : ℕ) → end ≤ i → rows_from m i (end - i) ≡ []
-rows_none m i end done = rows_done m i (end - i) (omega arith)
-
--- It is still to ask of them whether they pass a test.
-abbrev pub Asking : (Row → Bool) → List ℕ → ℕ → ℕ → Bool → ℕ → Type 0
-Asking test m k n fit i = (fit && each test (rows_from m i (k + n - i))) ≡ each test (rows_from m k n)
-
--- Or to join their classes.
-abbrev pub Joining : List ℕ → ℕ → ℕ → ℕ → ℕ → Type 0
-Joining m k n classes i = joined classes (rows_from m i (k + n - i)) ≡ joined 0 (rows_from m k n)
 
 and_yes : (t : Bool) → (t && true) ≡ t
 and_yes true = refl
 and_yes false = refl
 
-from_first : (k n : ℕ) → k + n - k ≡ n
-from_first k n = omega arith
+-- It is still to ask of rows that are left whether they pass a test.
+abbrev pub Asking : (Row → Bool) → List Row → List Row → Bool → Type 0
+Asking test rows left fit = (fit && each test left) ≡ each test rows
 
-module _ (test : Row → Bool) (m : List ℕ) (k n : ℕ) where
-  pub asking_begun : Asking test m k n true k
-  asking_begun = rw (from_first k n)
+module _ (test : Row → Bool) (rows : List Row) (fit : Bool) where
+  pub asking_on : (row : Row) (left : List Row) → Asking test rows (row ∷ left) fit → Asking test rows left (fit && test row)
+  asking_on row left going = and_assoc fit (test row) (each test left) ∙ going
 
-  pub asking_on : (fit : Bool) (i : ℕ) → i < k + n → Asking test m k n fit i → Asking test m k n (fit && test (row_of (row_bytes m i))) (i + 1)
-  asking_on fit i more going =
-      and_assoc fit (test (row_of (row_bytes m i))) (each test (rows_from m (i + 1) (k + n - (i + 1))))
-      ∙ ap (λ rows. fit && each test rows) (sym (rows_more m i (k + n) more))
-      ∙ going
-
-  pub asking_done : (fit : Bool) (i : ℕ) → k + n ≤ i → Asking test m k n fit i → fit ≡ each test (rows_from m k n)
-  asking_done fit i done going = sym (and_yes fit) ∙ ap (λ rows. fit && each test rows) (sym (rows_none m i (k + n) done)) ∙ going
-
-module _ (m : List ℕ) (k n : ℕ) where
-  pub joining_begun : Joining m k n 0 k
-  joining_begun = rw (from_first k n)
-
-  pub joining_on : (classes i : ℕ) → i < k + n → Joining m k n classes i → Joining m k n (bit_or classes (class_of (row_of (row_bytes m i)).state)) (i + 1)
-  joining_on classes i more going = ap (joined classes) (sym (rows_more m i (k + n) more)) ∙ going
-
-  pub joining_done : (classes i : ℕ) → k + n ≤ i → Joining m k n classes i → classes ≡ joined 0 (rows_from m k n)
-  joining_done classes i done going = ap (joined classes) (sym (rows_none m i (k + n) done)) ∙ going
+  pub asking_done : Asking test rows [] fit → fit ≡ each test rows
+  asking_done all = sym (and_yes fit) ∙ all
 
 -- two tests of each, and a test that is another
 four_ways : (a b s t : Bool) → ((a && b) && (s && t)) ≡ ((a && s) && (b && t))
@@ -144,10 +106,10 @@ flat_sum flat (row ∷ rows) h =
     omega (arith, suc-mul (length rows) flat)
 
 -- The products of rows, one after the other: what is added and joined, with what is still to take, is the whole.
-pub record Multiplying (terms : Terms) (m : List ℕ) (k n : ℕ) (products : Products) (i : ℕ) : Type 0 where
-  pub amounts : Adding K m k n products.amounts.0 i (k + n - i)
-  pub fees : Adding O m k n products.fees.0 i (k + n - i)
-  pub even : Asking (is_even terms) m k n (eqb products.differences 0) i
+pub record Multiplying (terms : Terms) (rows left : List Row) (products : Products) : Type 0 where
+  pub amounts : Adding K rows left products.amounts.0
+  pub fees : Adding O rows left products.fees.0
+  pub even : Asking (is_even terms) rows left (eqb products.differences 0)
 
 none_joined : (a b : ℕ) → eqb (bit_or a b) 0 ≡ (eqb a 0 && eqb b 0)
 none_joined a b =
@@ -160,58 +122,49 @@ none_joined a b =
     let second = eqb-true b 0 (and_right (eqb a 0) (eqb b 0) h) in
     eq-eqb (bit_or a b) 0 (omega (arith, or_add_and a b)))
 
-module _ {terms : Terms} {m : List ℕ} {k n : ℕ} where
-  pub multiplying_begun : Multiplying terms m k n (record { amounts = amount 0; fees = fee 0; differences = 0 }) k
-  multiplying_begun =
-      let all = from_first k n in
-      record { amounts = rw all adding_begun; fees = rw all adding_begun; even = asking_begun (is_even terms) m k n }
+module _ {terms : Terms} {rows : List Row} where
+  pub multiplying_begun : Multiplying terms rows rows (record { amounts = amount 0; fees = fee 0; differences = 0 })
+  multiplying_begun = record { amounts = adding_begun; fees = adding_begun; even = refl }
 
-  module _ {products : Products} {i : ℕ} (going : Multiplying terms m k n products i) where
-    pub products_small : k + n ≤ most_rows → i < k + n → SmallProducts products
-    products_small room more = record { amounts = omega (arith, going.amounts.low); fees = omega (arith, going.fees.low) }
+  pub products_small : {row : Row} {left : List Row} {products : Products} → Multiplying terms rows (row ∷ left) products → length rows ≤ most_rows → SmallProducts products
+  products_small going few = record { amounts = omega (arith, going.amounts.low, few); fees = omega (arith, going.fees.low, few) }
 
-    pub multiplying_on : {next : Products} → i < k + n → WithProduct terms products (row_of (row_bytes m i)) next → Multiplying terms m k n next (i + 1)
-    multiplying_on {next} more one =
-        let row = row_of (row_bytes m i) in
-        record {
-          amounts = adding_next going.amounts refl more one.amount_low one.amounts_are;
-          fees = adding_next going.fees refl more one.fee_low one.fees_are;
-          even =
-              subst (λ t. Asking (is_even terms) m k n t (i + 1))
-              (sym (ap (λ (d : ℕ). eqb d 0) one.differences_are ∙ none_joined products.differences (difference_of terms row)))
-              (asking_on (is_even terms) m k n (eqb products.differences 0) i more going.even);
-        }
+  pub multiplying_on : {row : Row} {left : List Row} {products next : Products} → Multiplying terms rows (row ∷ left) products → WithProduct terms products row next
+      → Multiplying terms rows left next
+  multiplying_on {row} {left} {products} {next} going one = record {
+    amounts = adding_on going.amounts one.amount_low one.amounts_are;
+    fees = adding_on going.fees one.fee_low one.fees_are;
+    even =
+        subst (Asking (is_even terms) rows left)
+        (sym (ap (λ (d : ℕ). eqb d 0) one.differences_are ∙ none_joined products.differences (difference_of terms row)))
+        (asking_on (is_even terms) rows (eqb products.differences 0) row left going.even);
+  }
 
-    pub multiplied : k + n ≤ i → n ≤ most_rows → Multiplied terms (rows_from m k n) products
-    multiplied done few =
-        let none : k + n - i ≤ 0 = omega arith in
-        record {
-          amounts_are = ap amount (adding_done going.amounts none);
-          fees_are = ap fee (adding_done going.fees none);
-          told = asking_done (is_even terms) m k n (eqb products.differences 0) i done going.even;
-          amounts_low = adding_within going.amounts few;
-          fees_low = adding_within going.fees few;
-        }
+  pub multiplied : {products : Products} → Multiplying terms rows [] products → length rows ≤ most_rows → Multiplied terms rows products
+  multiplied {products} all few = record {
+    amounts_are = ap amount (adding_done all.amounts);
+    fees_are = ap fee (adding_done all.fees);
+    told = asking_done (is_even terms) rows (eqb products.differences 0) all.even;
+    amounts_low = adding_within all.amounts few;
+    fees_low = adding_within all.fees few;
+  }
 
 -- what is found without a rate, and with one
 pub fees_within_lem : (n : ℕ) (flat : ℕ) → n ≤ most_rows → WithinOrder flat → WithinSum (n * flat)
 fees_within_lem n flat few within = let most = mul-le-mul few within in omega arith
 
-module _ (m : List ℕ) (k n : ℕ) where
-  abbrev rows : List Row
-  rows = rows_from m k n
-
-  pub flat_charged : (flat : Fee) → WithinOrder flat.0 → n ≤ most_rows → {charges : Charges} → charges.amounts ≡ amount (sum_over (worth K) rows)
-      → WithinSum charges.amounts.0 → charges.fees ≡ fee (n * flat.0)
-      → charges.charged ≡ (each amount_fits rows && (each (is_flat flat.0) rows && each has_none rows))
-      → Charged (record { flat = flat; rate = rate 0 }) rows charges
-  flat_charged flat within few {charges} amounts_are amounts_low fees_are charged_is = record {
+module _ (rows : List Row) where
+  pub flat_charged : (flat : Fee) → WithinOrder flat.0 → {n : ℕ} → n ≡ length rows → n ≤ most_rows → {amounts : Amount} {fees : Fee} {charged : Bool}
+      → amounts ≡ amount (sum_over (worth K) rows) → WithinSum amounts.0 → fees ≡ fee (n * flat.0)
+      → charged ≡ (each amount_fits rows && (each (is_flat flat.0) rows && each has_none rows))
+      → Charged (record { flat = flat; rate = rate 0 }) rows (record { amounts = amounts; fees = fees; charged = charged })
+  flat_charged flat within {n} many few amounts_are amounts_low fees_are charged_is = record {
     amounts_are = amounts_are;
     charged_is = charged_is ∙ sym (charged_flat flat within rows);
     fees_are = λ each_is.
         let all = and_right (each amount_fits rows) _ (sym charged_is ∙ each_is) in
         let sum = flat_sum flat.0 rows (and_left (each (is_flat flat.0) rows) (each has_none rows) all) in
-        fees_are ∙ ap fee (sym (sum ∙ ap (λ (many : ℕ). many * flat.0) (rows_many m k n)));
+        fees_are ∙ ap fee (ap (λ (many : ℕ). many * flat.0) many ∙ sym sum);
     amounts_low = amounts_low;
     fees_low = rw fees_are (fees_within_lem n flat.0 few within);
   }

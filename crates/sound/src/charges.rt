@@ -1,18 +1,14 @@
 // What the orders of a shipment are charged: their amounts and fees added up, and whether each has an amount in range, and its fee.
-ghost use Rattle.std.specs.Prelude.{◌≡◌, Bool, ◌&&◌, List, ℕ, ◌+◌, ◌≤◌, ◌<◌, length};
+ghost use Rattle.std.specs.Prelude.{◌≡◌, Bool, ◌&&◌};
 ghost use Rattle.fee.specs.Fee.{TermsFit};
 ghost use Rattle.epe.specs.Profile.{each};
-ghost use Rattle.model.specs.Shipment.{most_rows};
 ghost use Rattle.model.specs.declared.Row.{Row};
-ghost use Rattle.memory.specs.Layout.{size, row_bytes};
-ghost use Rattle.memory.specs.Rows.{row_of};
-ghost use Rattle.memory.specs.Read.{rows_from};
 ghost use Rattle.money.specs.Money.{WithinOrder};
 ghost use Rattle.sound.specs.Inner.Charges.{amount_fits, fee_fits, remainder_fits, is_flat, has_none, Tells, Charged, WithProduct, SmallProducts, Multiplied};
 
 use fee::{Rate, Terms, difference};
-use memory::column::amounts_in;
-use memory::row::{amount, fee, remainder};
+use memory::row::LentRow;
+use memory::rows::Rows;
 use money::{Amount, Fee, Grosze};
 
 // The sums of amounts and of fees, and whether each order is charged its fee. The fees are only added up right where each is.
@@ -31,41 +27,41 @@ pub struct Products {
     pub differences: u64,
 }
 
-// The charges of the n rows from the k-th on, on some terms.
-pub fn charges_in(memory: &[u8], k: usize, n: usize, terms: Terms) -> Charges
-    requires { (k + n ≤ most_rows) × (size ≤ length memory.now) × TermsFit terms }
-    ensures { Charged terms (rows_from memory.now k n) result }
+// The charges of rows, on some terms.
+pub fn charges_in(rows: &Rows, terms: Terms) -> Charges
+    requires { TermsFit terms }
+    ensures { Charged terms rows.now result }
 {
     if terms.rate.0 == 0 {
-        return flat_charges(memory, k, n, terms.flat);
+        return flat_charges(rows, terms.flat);
     }
-    rated_charges(memory, k, n, terms)
+    rated_charges(rows, terms)
 }
 
 // Those without a rate: every fee is the flat part, and no remainder stands beside it.
-fn flat_charges(memory: &[u8], k: usize, n: usize, flat: Fee) -> Charges
-    requires { (k + n ≤ most_rows) × (size ≤ length memory.now) × WithinOrder flat.0 }
-    ensures { Charged (record { flat = flat; rate = record { 0 = 0 } }) (rows_from memory.now k n) result }
+fn flat_charges(rows: &Rows, flat: Fee) -> Charges
+    requires { WithinOrder flat.0 }
+    ensures { Charged (record { flat = flat; rate = record { 0 = 0 } }) rows.now result }
 {
-    let amounts = amounts_in(memory, k, n);
-    let fees = Fee::sum(n as u64 * flat.0);
+    let amounts = rows.amounts();
+    let fees = Fee::sum(rows.len() as u64 * flat.0);
     Charges {
         amounts,
         fees,
-        charged: are_charged_flat(memory, k, n, flat),
+        charged: are_charged_flat(rows, flat),
     }
 }
 
 // Those with a rate.
 #[tactic(auto, using(crate::proofs::Tallying::rated_charged))]
-fn rated_charges(memory: &[u8], k: usize, n: usize, terms: Terms) -> Charges
-    requires { (k + n ≤ most_rows) × (size ≤ length memory.now) × TermsFit terms }
-    ensures { Charged terms (rows_from memory.now k n) result }
+fn rated_charges(rows: &Rows, terms: Terms) -> Charges
+    requires { TermsFit terms }
+    ensures { Charged terms rows.now result }
 {
-    let products = products_in(memory, k, n, terms);
+    let products = products_in(rows, terms);
     let amounts = products.amounts;
     let fees = products.fees;
-    let charged = are_in_range(memory, k, n) & (products.differences == 0);
+    let charged = are_in_range(rows) & (products.differences == 0);
     Charges {
         amounts,
         fees,
@@ -73,31 +69,29 @@ fn rated_charges(memory: &[u8], k: usize, n: usize, terms: Terms) -> Charges
     }
 }
 
-// Has each of the n rows from the k-th on an amount in range, the flat part for its fee, and no remainder?
-fn are_charged_flat(memory: &[u8], k: usize, n: usize, flat: Fee) -> bool
-    requires { (k + n ≤ most_rows) × (size ≤ length memory.now) }
-    ensures { result ≡ (each amount_fits (rows_from memory.now k n) && (each (is_flat flat.0) (rows_from memory.now k n) && each has_none (rows_from memory.now k n))) }
+// Has each row an amount in range, the flat part for its fee, and no remainder?
+fn are_charged_flat(rows: &Rows, flat: Fee) -> bool
+    ensures { result ≡ (each amount_fits rows.now && (each (is_flat flat.0) rows.now && each has_none rows.now)) }
 {
-    are_amounts(memory, k, n)
-        && (do_all_pass(k, n, |i| fee(memory, i).0 == flat.0)
-            && do_all_pass(k, n, |i| remainder(memory, i) == 0))
+    are_amounts(rows)
+        && (do_all_pass(rows, |row| row.fee().0 == flat.0)
+            && do_all_pass(rows, |row| row.remainder() == 0))
 }
 
 // Are amount, fee and remainder of each in range?
-fn are_in_range(memory: &[u8], k: usize, n: usize) -> bool
-    requires { (k + n ≤ most_rows) × (size ≤ length memory.now) }
-    ensures { result ≡ (each amount_fits (rows_from memory.now k n) && (each fee_fits (rows_from memory.now k n) && each remainder_fits (rows_from memory.now k n))) }
+fn are_in_range(rows: &Rows) -> bool
+    ensures { result ≡ (each amount_fits rows.now && (each fee_fits rows.now && each remainder_fits rows.now)) }
 {
-    are_amounts(memory, k, n)
-        && (do_all_pass(k, n, |i| Fee::is_order(fee(memory, i).0))
-            && do_all_pass(k, n, |i| remainder(memory, i) < Rate::CAP))
+    are_amounts(rows)
+        && (do_all_pass(rows, |row| Fee::is_order(row.fee().0))
+            && do_all_pass(rows, |row| row.remainder() < Rate::CAP))
 }
 
-// The products of the n rows from the k-th on.
-#[tactic(auto, using(crate::proofs::Tallying::multiplying_begun, crate::proofs::Tallying::products_small, crate::proofs::Tallying::multiplied))]
-fn products_in(memory: &[u8], k: usize, n: usize, terms: Terms) -> Products
-    requires { (k + n ≤ most_rows) × (size ≤ length memory.now) × TermsFit terms }
-    ensures { Multiplied terms (rows_from memory.now k n) result }
+// The products of rows.
+#[tactic(auto, using(crate::proofs::Tallying::multiplying_begun, crate::proofs::Tallying::products_small, crate::proofs::Tallying::multiplying_on, crate::proofs::Tallying::multiplied))]
+fn products_in(rows: &Rows, terms: Terms) -> Products
+    requires { TermsFit terms }
+    ensures { Multiplied terms rows.now result }
 {
     let no_amount = Amount::sum(0);
     let no_fee = Fee::sum(0);
@@ -106,21 +100,20 @@ fn products_in(memory: &[u8], k: usize, n: usize, terms: Terms) -> Products
         fees: no_fee,
         differences: 0,
     };
-    // Kept: 3c: a row lies in columns, so there is no slice of rows to walk.
-    for i in k..k + n {
-        products = with_product(products, memory, i, terms);
+    for row in rows {
+        products = with_product(products, &row, terms);
     }
     products
 }
 
-// The products with row k.
-fn with_product(products: Products, memory: &[u8], k: usize, terms: Terms) -> Products
-    requires { (k < most_rows) × (size ≤ length memory.now) × TermsFit terms × SmallProducts products }
-    ensures { WithProduct terms products (row_of (row_bytes memory.now k)) result }
+// The products with a row.
+fn with_product(products: Products, row: &LentRow, terms: Terms) -> Products
+    requires { TermsFit terms × SmallProducts products }
+    ensures { WithProduct terms products row.now result }
 {
-    let amount = amount(memory, k);
-    let fee = fee(memory, k);
-    let differs = difference(terms, amount.0, fee.0, remainder(memory, k));
+    let amount = row.amount();
+    let fee = row.fee();
+    let differs = difference(terms, amount.0, fee.0, row.remainder());
     let amounts = Amount::sum(products.amounts.0 + amount.0);
     let fees = Fee::sum(products.fees.0 + fee.0);
     Products {
@@ -130,23 +123,21 @@ fn with_product(products: Products, memory: &[u8], k: usize, terms: Terms) -> Pr
     }
 }
 
-// Is each amount of the n rows from the k-th on in range?
-fn are_amounts(memory: &[u8], k: usize, n: usize) -> bool
-    requires { (k + n ≤ most_rows) × (size ≤ length memory.now) }
-    ensures { result ≡ each amount_fits (rows_from memory.now k n) }
+// Is each amount in range?
+fn are_amounts(rows: &Rows) -> bool
+    ensures { result ≡ each amount_fits rows.now }
 {
-    do_all_pass(k, n, |i| Amount::is_order(amount(memory, i).0))
+    do_all_pass(rows, |row| Amount::is_order(row.amount().0))
 }
 
-// Do all of the n rows from the k-th on pass a test?
-fn do_all_pass<F: Fn(usize) -> bool>(k: usize, n: usize, test: F) -> bool
-    requires room { k + n ≤ most_rows }
-    requires callable { (i : ℕ) → i < most_rows → F.pre test i }
-    ensures { (m : List ℕ) (asked : Row → Bool) → Tells (F.post test) m asked → result ≡ each asked (rows_from m k n) }
+// Do all rows pass a test?
+fn do_all_pass<F: Fn(LentRow) -> bool>(rows: &Rows, test: F) -> bool
+    requires callable { (row : Row) → F.pre test row }
+    ensures { (asked : Row → Bool) → Tells (F.post test) asked → result ≡ each asked rows.now }
 {
     let mut fit = true;
-    for i in k..k + n {
-        fit &= test(i);
+    for row in rows {
+        fit &= test(row);
     }
     fit
 }

@@ -1,26 +1,21 @@
 // Whether a shipment is sound, by its head and the tally of its rows; and all shipments, one after the other.
-ghost use Rattle.std.specs.Prelude.{◌≡◌, ◌≤◌, ◌<◌, length};
+ghost use Rattle.std.specs.Prelude.{◌≡◌, ◌≤◌, ◌<◌};
 ghost use Rattle.money.specs.Money.{WithinSum, sum_of, grosze_in, money_of_sum};
 ghost use Rattle.fee.specs.Fee.{terms_fit};
 ghost use Rattle.model.specs.Shipment.{most_shipments, most_rows, only_if};
-ghost use Rattle.memory.specs.Layout.{size, IsHead};
 ghost use Rattle.sound.specs.Inner.Tally.{paired_in, rows_fit, go_ahead_fits, is_covered, money_fits, moneys_fit, judged};
 ghost use Rattle.sound.specs.Inner.Walk.{sound_at, sound_from};
 
 use crate::tally::{ONLY_PAIRED, OUT_OF_RANGE, Tally, has_faulty, tally_by};
 use fee::{Rate, Terms};
-use memory::MOST_ROWS;
-use memory::head::{
-    accepted, has_flags_in_form, has_go_ahead, has_sums_in_range, head_bytes, is_paired,
-    is_waiting, orders, returned, terms,
-};
-use memory::name::has_name_in_form;
+use memory::head::Head;
+use memory::{MOST_ROWS, Memory};
 use money::{Fee, Grosze, Sum};
 
 // Are n shipments sound, each by itself?
 #[tactic(auto, using(text::proofs::Branches::branches, crate::proofs::HeadByHead::sound_more, crate::proofs::HeadByHead::sound_all, crate::proofs::HeadByHead::sound_room))]
-pub fn are_sound(memory: &[u8], n: usize) -> bool
-    requires { (n ≤ most_shipments) × (size ≤ length memory.now) }
+pub fn are_sound(memory: &Memory, n: usize) -> bool
+    requires { (n ≤ most_shipments) }
     ensures { result ≡ sound_from memory.now 0 0 n }
 {
     let mut k = 0;
@@ -29,33 +24,33 @@ pub fn are_sound(memory: &[u8], n: usize) -> bool
         if !is_sound_at(memory, i, k) {
             return false;
         }
-        k += orders(head_bytes(memory, i)) as usize;
+        k += memory.head(i).orders() as usize;
     }
     true
 }
 
 // Is the shipment of head i sound, its rows from the k-th on?
 #[tactic(auto, using(text::proofs::Branches::told, fee::proofs::Charged::terms_within, crate::proofs::JudgedIsSound::flags_wrong, crate::proofs::JudgedIsSound::no_room, crate::proofs::JudgedIsSound::name_wrong, crate::proofs::JudgedIsSound::terms_wrong, crate::proofs::JudgedIsSound::sound_as_judged))]
-fn is_sound_at(memory: &[u8], i: usize, k: usize) -> bool
-    requires { (i < most_shipments) × (k ≤ most_rows) × (size ≤ length memory.now) }
+fn is_sound_at(memory: &Memory, i: usize, k: usize) -> bool
+    requires { (i < most_shipments) × (k ≤ most_rows) }
     ensures { result ≡ sound_at memory.now i k }
 {
-    let head = head_bytes(memory, i);
-    if !has_flags_in_form(head) {
+    let head = memory.head(i);
+    if !head.has_flags_in_form() {
         return false;
     }
-    let n = orders(head);
+    let n = head.orders();
     if MOST_ROWS < k + n as usize {
         return false;
     }
-    if !has_name_in_form(head) {
+    if !head.has_name_in_form() {
         return false;
     }
-    let terms = terms(head);
+    let terms = head.terms();
     if !do_terms_fit(terms) {
         return false;
     }
-    judge(head, n, tally_by(memory, k, n as usize, terms))
+    judge(&head, n, tally_by(&memory.rows(k, n as usize), terms))
 }
 
 // Are the flat part and the rate in range?
@@ -67,8 +62,8 @@ fn do_terms_fit(terms: Terms) -> bool
 
 // Is a shipment of n orders sound, but for its name and its terms?
 #[tactic(auto, using(text::proofs::Branches::branches), unfolding(crate::specs::Inner::Tally::judged))]
-fn judge(head: &[u8], n: u64, tally: Tally) -> bool
-    requires { IsHead head.now × WithinSum tally.charges.amounts.0 × WithinSum tally.charges.fees.0 }
+fn judge(head: &Head, n: u64, tally: Tally) -> bool
+    requires { WithinSum tally.charges.amounts.0 × WithinSum tally.charges.fees.0 }
     ensures { result ≡ judged head.now n tally }
 {
     1 <= n
@@ -78,14 +73,13 @@ fn judge(head: &[u8], n: u64, tally: Tally) -> bool
 
 // May the shipment, Paired or not, have such rows?
 #[tactic(auto, using(text::proofs::Branches::branches), unfolding(crate::specs::Inner::Tally::rows_fit))]
-fn do_rows_fit(head: &[u8], tally: Tally) -> bool
-    requires { IsHead head.now }
+fn do_rows_fit(head: &Head, tally: Tally) -> bool
     ensures { result ≡ rows_fit head.now tally }
 {
     if !tally.charges.charged {
         return false;
     }
-    if is_paired(head) {
+    if head.is_paired() {
         return tally.classes < OUT_OF_RANGE;
     }
     tally.classes < ONLY_PAIRED
@@ -93,15 +87,14 @@ fn do_rows_fit(head: &[u8], tally: Tally) -> bool
 
 // Does the go-ahead, or none, fit the faults?
 #[tactic(auto, using(text::proofs::Branches::branches), unfolding(crate::specs::Inner::Tally::go_ahead_fits))]
-fn does_go_ahead_fit(head: &[u8], tally: Tally) -> bool
-    requires { IsHead head.now }
+fn does_go_ahead_fit(head: &Head, tally: Tally) -> bool
     ensures { result ≡ go_ahead_fits head.now tally }
 {
     let faulty = has_faulty(tally);
-    if has_go_ahead(head) {
+    if head.has_go_ahead() {
         return faulty;
     }
-    if is_paired(head) {
+    if head.is_paired() {
         return !faulty;
     }
     true
@@ -109,8 +102,8 @@ fn does_go_ahead_fit(head: &[u8], tally: Tally) -> bool
 
 // Do the sums of both moneys fit?
 #[tactic(auto, using(text::proofs::Branches::branches), unfolding(money::specs::Money::grosze_in, crate::specs::Inner::Tally::moneys_fit, money::specs::Money::money_of_sum))]
-fn do_moneys_fit(head: &[u8], tally: Tally) -> bool
-    requires { IsHead head.now × WithinSum tally.charges.amounts.0 × WithinSum tally.charges.fees.0 }
+fn do_moneys_fit(head: &Head, tally: Tally) -> bool
+    requires { WithinSum tally.charges.amounts.0 × WithinSum tally.charges.fees.0 }
     ensures { result ≡ moneys_fit head.now tally }
 {
     let amounts = tally.charges.amounts;
@@ -120,29 +113,28 @@ fn do_moneys_fit(head: &[u8], tally: Tally) -> bool
 
 // Do the sums of a money fit, for what is needed of it?
 #[tactic(auto, using(money::proofs::Sums::grosze_is, crate::proofs::JudgedIsSound::money_wrong, crate::proofs::JudgedIsSound::money_right, crate::proofs::JudgedIsSound::sums_are, crate::proofs::JudgedIsSound::only_if_within))]
-fn does_money_fit(head: &[u8], need: Sum) -> bool
-    requires { IsHead head.now × WithinSum (grosze_in need) }
+fn does_money_fit(head: &Head, need: Sum) -> bool
+    requires { WithinSum (grosze_in need) }
     ensures { result ≡ money_fits head.now (money_of_sum need) (grosze_in need) }
 {
     let money = need.money();
-    if !has_sums_in_range(head, money) {
+    if !head.has_sums_in_range(money) {
         return false;
     }
     is_covered(
-        accepted(head, money),
-        returned(head, money),
+        head.accepted(money),
+        head.returned(money),
         need_once_paired(head, need),
-        is_waiting(head),
+        head.is_waiting(),
     )
 }
 
 // What is needed once the shipment is Paired, and nothing before.
 #[tactic(auto, using(text::proofs::Branches::told, money::proofs::Sums::whole_sum))]
-fn need_once_paired(head: &[u8], need: Sum) -> Sum
-    requires { IsHead head.now }
+fn need_once_paired(head: &Head, need: Sum) -> Sum
     ensures { result ≡ sum_of (money_of_sum need) (only_if (paired_in head.now) (grosze_in need)) }
 {
-    if is_paired(head) {
+    if head.is_paired() {
         return need;
     }
     Sum::of(need.money(), 0)

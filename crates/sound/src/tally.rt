@@ -1,14 +1,11 @@
 // The rows of a shipment, taken together for its soundness: column by column, and no loop leaves before its end, so that many rows are taken at a time.
-ghost use Rattle.std.specs.Prelude.{◌≡◌, ◌+◌, ◌≤◌, length};
+ghost use Rattle.std.specs.Prelude.{◌≡◌};
 ghost use Rattle.fee.specs.Fee.{TermsFit};
-ghost use Rattle.model.specs.Shipment.{most_rows};
-ghost use Rattle.memory.specs.Layout.{size};
-ghost use Rattle.memory.specs.Read.{rows_from};
 ghost use Rattle.sound.specs.Inner.Tally.{joined, faulty_in, Tallied};
 
 use crate::charges::{Charges, charges_in};
 use fee::Terms;
-use memory::class::class;
+use memory::rows::Rows;
 
 // The classes from here on are of states that only a Paired shipment may have.
 pub const ONLY_PAIRED: u8 = 2;
@@ -23,13 +20,13 @@ pub struct Tally {
     pub charges: Charges,
 }
 
-// The tally of the n rows from the k-th on, on the terms of their fees.
-pub fn tally_by(memory: &[u8], k: usize, n: usize, terms: Terms) -> Tally
-    requires { (k + n ≤ most_rows) × (size ≤ length memory.now) × TermsFit terms }
-    ensures { Tallied terms (rows_from memory.now k n) result }
+// The tally of rows, on the terms of their fees.
+pub fn tally_by(rows: &Rows, terms: Terms) -> Tally
+    requires { TermsFit terms }
+    ensures { Tallied terms rows.now result }
 {
-    let classes = classes_in(memory, k, n);
-    let charges = charges_in(memory, k, n, terms);
+    let classes = classes_in(rows);
+    let charges = charges_in(rows, terms);
     Tally { classes, charges }
 }
 
@@ -40,16 +37,14 @@ pub fn has_faulty(tally: Tally) -> bool
     tally.classes % 2 == 1
 }
 
-// The classes of the states of the n rows from the k-th on, joined.
-#[tactic(auto, using(crate::proofs::Tallying::joining_begun, crate::proofs::Tallying::joining_on, crate::proofs::Tallying::joining_done))]
-fn classes_in(memory: &[u8], k: usize, n: usize) -> u8
-    requires { (k + n ≤ most_rows) × (size ≤ length memory.now) }
-    ensures { result ≡ joined 0 (rows_from memory.now k n) }
+// The classes of their states, joined.
+#[tactic(auto, unfolding(crate::specs::Inner::Tally::joined))]
+fn classes_in(rows: &Rows) -> u8
+    ensures { result ≡ joined 0 rows.now }
 {
     let mut classes = 0;
-    // Kept: 3c: a row lies in columns, so there is no slice of rows to walk.
-    for i in k..k + n {
-        classes |= class(memory, i);
+    for row in rows {
+        classes |= row.class();
     }
     classes
 }

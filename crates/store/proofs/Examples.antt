@@ -17,7 +17,7 @@ use Rattle.model.specs.Rated.{calls as rated_calls}
 use Rattle.model.specs.declared.State.TheVariants.{Open}
 use Rattle.model.proofs.AboutZs1.{stepped}
 use Rattle.write.specs.Written.{Wrote, leaving, written_after}
-use Rattle.write.specs.declared.Writing.TheVariants.{Written}
+use Rattle.std.specs.Prelude.{Ok}
 use Rattle.store.specs.Stored.{head_of, order_of, orders_of, contents_from, bodies_of, stored, stored_into}
 
 -- names the definitions that the examples compute
@@ -105,14 +105,14 @@ no_book = refl
 -- A byte too short is 30, and leaves every byte; just long enough will do; and a byte behind stays as it was.
 rooms : map (λ (room : ℕ). answered (some (book_at calls 1)) (replicate room 7)) (108 ∷ 109 ∷ 110 ∷ [])
     ≡ leaving (replicate 108 7) 30
-    ∷ record { answer = Written 109; output = zs1_stored }
-    ∷ record { answer = Written 109; output = zs1_stored ++ 7 ∷ [] }
+    ∷ record { answer = Ok 109; output = zs1_stored }
+    ∷ record { answer = Ok 109; output = zs1_stored ++ 7 ∷ [] }
     ∷ []
 unfolding answered zs1_named zs1_alone flat_fee zs1_stored
 rooms = refl
 
 -- So of the empty book, whose bytes are two.
 empty_rooms : map (λ (room : ℕ). answered (some []) (replicate room 7)) (1 ∷ 2 ∷ 3 ∷ [])
-    ≡ leaving (7 ∷ []) 30 ∷ record { answer = Written 2; output = 2 ∷ 0 ∷ [] } ∷ record { answer = Written 2; output = 2 ∷ 0 ∷ 7 ∷ [] } ∷ []
+    ≡ leaving (7 ∷ []) 30 ∷ record { answer = Ok 2; output = 2 ∷ 0 ∷ [] } ∷ record { answer = Ok 2; output = 2 ∷ 0 ∷ 7 ∷ [] } ∷ []
 unfolding answered
 empty_rooms = refl

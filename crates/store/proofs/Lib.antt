@@ -8,7 +8,6 @@ pub mod SoundMemory
 pub mod RawBytes
 pub mod Storing
 pub mod StoreAnswers
-pub mod Placing
 pub mod Unpacking
 pub mod LoadAnswers
 pub mod Examples

@@ -19,7 +19,7 @@ use Rattle.memory.specs.Read.{book_in, flags_from, shipments_in, sound_in, read_
 use Rattle.write.specs.Written.{written}
 use Rattle.store.specs.Stored.{form, stored}
 use Rattle.store.specs.Unstored.{Stores, Loads}
-use Rattle.store.specs.declared.load.Loading.TheVariants.{Loaded, Refused}
+use Rattle.std.specs.Prelude.{Result, Ok, Err}
 use Rattle.store.specs.Inner.Walk.{is_whole, book_of, flags_of}
 use Rattle.store.specs.Inner.Unpack.{has_contents, BodiesUnpacked, Unpacked}
 use Rattle.store.proofs.Walks.{whole_is_stored}
@@ -85,7 +85,7 @@ module _ {bytes : List ℕ} where
 
 -- the answers
 module _ (bytes lent : List ℕ) where
-  refuses_others : ((book : Book) → Stores bytes book → ⊥) → Loads lent bytes (Refused 32) lent
+  refuses_others : ((book : Book) → Stores bytes book → ⊥) → Loads lent bytes (Err 32) lent
   refuses_others none = record {
     loaded = λ book is room. absurd (none book is);
     too_short = λ book is short. absurd (none book is);
@@ -95,14 +95,14 @@ module _ (bytes lent : List ℕ) where
     as_long = refl;
   }
 
-  pub refuses_broken : {whole : Bool} {m m' : List ℕ} → Unpacked bytes whole m m' → whole ≡ false → Loads lent bytes (Refused 32) lent
+  pub refuses_broken : {whole : Bool} {m m' : List ℕ} → Unpacked bytes whole m m' → whole ≡ false → Loads lent bytes (Err 32) lent
   refuses_broken unpacked broken = refuses_others (λ book is. false≢true (sym broken ∙ unpacked.answer ∙ stored_whole book is))
 
   module _ {whole : Bool} {m m' : List ℕ} (unpacked : Unpacked bytes whole m m') (all : whole ≡ true) where
-    pub refuses_unsound : size ≤ length m' → sound_in m' ≡ false → Loads lent bytes (Refused 32) lent
+    pub refuses_unsound : size ≤ length m' → sound_in m' ≡ false → Loads lent bytes (Err 32) lent
     refuses_unsound enough unsound = refuses_others (λ book is. false≢true (sym unsound ∙ stored_sound unpacked all book is enough))
 
-    pub refuses_short : ((j : ℕ) → get_or bytes j 0 < 256) → sound_in m' ≡ true → length lent < size → Loads lent bytes (Refused 30) lent
+    pub refuses_short : ((j : ℕ) → get_or bytes j 0 < 256) → sound_in m' ≡ true → length lent < size → Loads lent bytes (Err 30) lent
     refuses_short small is_sound short = record {
       loaded = λ book is room. absurd (omega arith);
       too_short = λ book is less. refl;
@@ -112,7 +112,7 @@ module _ (bytes lent : List ℕ) where
       as_long = refl;
     }
 
-    pub loads : {after : List ℕ} → ((j : ℕ) → get_or bytes j 0 < 256) → sound_in m' ≡ true → length m' ≡ size → size ≤ length lent → after ≡ written m' lent → Loads lent bytes Loaded after
+    pub loads : {after : List ℕ} → ((j : ℕ) → get_or bytes j 0 < 256) → sound_in m' ≡ true → length m' ≡ size → size ≤ length lent → after ≡ written m' lent → Loads lent bytes (Ok tt) after
     loads {after} small is_sound long room put =
         let holds = ap read_book put ∙ read_before m' is_sound (drop (length m') lent) in
         record {
@@ -130,7 +130,7 @@ module _ (bytes lent : List ℕ) where
         same : (book : Book) → Stores bytes book → book_in m' ≡ book
         same book is = stored_apart (book_in m') book stores.storable is.storable (stores.is_stored ∙ sym is.is_stored)
 
-        otherwise : {number : ℕ} → Loaded ≡ Refused number → ⊥
+        otherwise : {number : ℕ} → ◌≡◌ {A = Result (Unit {0}) ℕ} (Ok tt) (Err number) → ⊥
         otherwise h = let never : ◌≡◌ {A = ℕ} 0 1 = cc in absurd (omega arith)
 
         kept : (j : ℕ) → size ≤ j → get_or (written m' lent) j 0 ≡ get_or lent j 0

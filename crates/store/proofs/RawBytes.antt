@@ -19,7 +19,8 @@ use Rattle.memory.specs.Rows.{row_of}
 use Rattle.memory.specs.Heads.{flags_in_form, shipment_in}
 use Rattle.memory.specs.Read.{rows_from, orders_at, shipment_at, shipments_from, flags_from, shipments_in, book_in, sound_in}
 use Rattle.memory.specs.Inner.Enter.{bytes_of}
-use Rattle.sound.proofs.ReadLaws.{rows_many, shipments_many}
+use Rattle.memory.proofs.Columns.{rows_many}
+use Rattle.sound.proofs.ReadLaws.{shipments_many}
 use Rattle.store.specs.Stored.{form, head_of, orders_of, body_of, contents_from, bodies_of, stored}
 use Rattle.store.specs.Inner.Raw.{raw_orders, raw_bodies, raw_length, raw_contents, raw_stored}
 use Rattle.store.proofs.Heads.{head_forth}

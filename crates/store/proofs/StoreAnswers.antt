@@ -11,14 +11,14 @@ use Rattle.memory.specs.Layout.{head_size, row_size}
 use Rattle.memory.specs.Read.{shipments_from, shipments_in, book_in, sound_in, read_book}
 use Rattle.sound.proofs.ReadLaws.{shipments_many}
 use Rattle.write.specs.Written.{written, leaving, written_after}
-use Rattle.write.specs.declared.Writing.TheVariants.{Written}
+use Rattle.std.specs.Prelude.{Ok}
 use Rattle.write.proofs.Pieces.{room_whole, whole_written}
 use Rattle.write.proofs.Answers.{alone_short, alone_written}
 use Rattle.store.specs.Stored.{stored_into}
 use Rattle.store.specs.Inner.Raw.{raw_stored}
 use Rattle.store.proofs.Backs.{stored_long}
-use Rattle.store.proofs.SoundMemory.{sound_storable}
-use Rattle.store.proofs.Storing.{book_lent}
+use Rattle.store.proofs.SoundMemory.{long_enough, sound_storable}
+use Rattle.store.proofs.Storing.{book_few}
 use Rattle.store.proofs.RawBytes.{stored_raw}
 
 pub store_unsound : (m output : List ℕ) → sound_in m ≡ false → leaving output 10 ≡ stored_into (read_book m) output
@@ -42,8 +42,8 @@ module _ (m : List ℕ) (small : (j : ℕ) → get_or m j 0 < 256) (h : sound_in
   store_short output short = alone_short (raw_stored m) output short ∙ by_raw output
 
   pub store_wrote : (output : List ℕ) {n : ℕ} {after : List ℕ} → length (raw_stored m) ≤ length output → n ≡ length (raw_stored m) → after ≡ written (raw_stored m) output
-      → record { answer = Written n; output = after } ≡ stored_into (read_book m) output
+      → record { answer = Ok n; output = after } ≡ stored_into (read_book m) output
   store_wrote output long is_long is_after = alone_written (raw_stored m) output long is_long is_after ∙ by_raw output
 
 -- by which storing answers
-pub ruleset storing = (book_lent, store_unsound, store_measured, store_short, store_wrote, room_whole, whole_written)
+pub ruleset storing = (long_enough, book_few, store_unsound, store_measured, store_short, store_wrote, room_whole, whole_written)

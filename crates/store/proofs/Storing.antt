@@ -1,65 +1,34 @@
 -- Raw bytes put piece by piece: orders, bodies, the contents table.
 -- Assumes nothing.
-use mathlib.Core.Path.{◌≡◌, refl, ap, ◌∙◌}
+use mathlib.Core.Path.{◌≡◌, refl}
 use mathlib.Core.Bool.{true}
 use mathlib.Core.List.{List, [], ◌∷◌, ◌++◌, append_assoc}
-use Prim.Native.Nat.{ℕ, zero, suc, ◌+◌, ◌*◌, ◌-◌, ◌/◌, ◌≤◌, ◌<◌}
+use Prim.Native.Nat.{ℕ, suc, ◌+◌, ◌*◌, ◌-◌, ◌/◌, ◌≤◌, ◌<◌}
 use native.Mathlib.Nat.{div-div-eq-div-mul}
 use native.Mathlib.Numerals.{add-one}
 use native.Mathlib.Omega.{arith}
-use borrow.Author.Tests.{leb-true}
 use mir.Syntax.{w32}
 use lib.Dec.{leb}
-use lib.ListN.{length, get_or, take, drop}
-use lib.Seq.{drop-cons}
+use lib.ListN.{length}
 use Rattle.std.specs.Int.{to_le_bytes}
 use Rattle.model.specs.Shipment.{most_shipments, most_rows}
 use Rattle.model.specs.Book.{rows_in}
-use Rattle.memory.specs.Layout.{amount_at, fee_at, remainder_at, code_at, size, head_bytes, row_bytes}
+use Rattle.memory.specs.Layout.{size, head_bytes, row_bytes}
 use Rattle.memory.specs.Read.{orders_at, shipments_from, flags_from, shipments_in, book_in, sound_in}
 use Rattle.memory.specs.Inner.Enter.{bytes_of}
-use Rattle.sound.proofs.ReadLaws.{shipments_many, rows_next}
-use Rattle.text.proofs.Branches.{and_left, and_right}
+use Rattle.sound.proofs.ReadLaws.{rows_next}
+use Rattle.text.proofs.Branches.{and_right}
 use Rattle.model.proofs.StaysSound.{book_in_order}
 use Rattle.write.specs.Writer.{HasRoom, Writes}
 use Rattle.write.specs.declared.Writer.{Writer}
 use Rattle.write.proofs.Pieces.{room_first, Left, all_left, left_behind, none_left}
 use Rattle.store.specs.Stored.{form}
 use Rattle.store.specs.Inner.Raw.{raw_orders, raw_bodies, raw_length, raw_contents, raw_stored}
+use Rattle.store.proofs.SoundMemory.{few_shipments}
 
 -- a number of four bytes
 pub four_bytes : (n : ℕ) → to_le_bytes w32 n ≡ bytes_of 4 n
 four_bytes n = rw (div-div-eq-div-mul (n / 256) 256 256, div-div-eq-div-mul n 256 65_536, div-div-eq-div-mul n 256 256) refl
-
--- some bytes of memory, one by one
-module _ (m : List ℕ) (at : ℕ) where
-  abbrev bytes_on : ℕ → ℕ → List ℕ
-  bytes_on q zero = []
-  bytes_on q (suc n) = get_or m (at + q) 0 ∷ bytes_on (suc q) n
-
-  abbrev pub bytes_from : ℕ → List ℕ
-  bytes_from n = get_or m at 0 ∷ bytes_on 1 n
-
-  bytes_on_lem : (q n : ℕ) → at + q + n ≤ length m → bytes_on q n ≡ take n (drop (at + q) m)
-  bytes_on_lem q zero within = refl
-  bytes_on_lem q (suc n) within =
-      let next : at + suc q ≡ suc (at + q) = omega arith in
-      rw (drop-cons m (at + q) 0 (omega arith))
-      (ap (λ (l : List ℕ). get_or m (at + q) 0 ∷ l) (bytes_on_lem (suc q) n (omega arith) ∙ ap (λ (p : ℕ). take n (drop p m)) next))
-
-  bytes_from_lem : (n : ℕ) → at + suc n ≤ length m → bytes_from n ≡ take (suc n) (drop at m)
-  bytes_from_lem n within = let here : at + 0 ≡ at = omega arith in rw here at (bytes_on_lem 0 (suc n) (omega arith))
-
--- the bytes of a row, column after column
-pub gathered : (m : List ℕ) (k : ℕ) → k < most_rows → size ≤ length m
-    → bytes_from m (amount_at k) 3 ++ (bytes_from m (code_at k) 0 ++ (bytes_from m (fee_at k) 3 ++ bytes_from m (remainder_at k) 1)) ≡ row_bytes m k
-unfolding row_bytes
-gathered m k few enough =
-    let amount = bytes_from_lem m (amount_at k) 3 (omega arith) in
-    let code = bytes_from_lem m (code_at k) 0 (omega arith) in
-    let fee = bytes_from_lem m (fee_at k) 3 (omega arith) in
-    let remainder = bytes_from_lem m (remainder_at k) 1 (omega arith) in
-    λ i. amount i ++ (code i ++ (fee i ++ remainder i))
 
 -- orders: those from row r on are left
 pub record OrdersPut (m : List ℕ) (start : Writer) (k n : ℕ) (now : Writer) (r : ℕ) : Type 0 where
@@ -164,13 +133,8 @@ pub raw_is : (m : List ℕ) (n : ℕ) → n ≡ shipments_in m → (form ∷ n �
 unfolding raw_stored
 raw_is m n is = λ i. form ∷ is i ∷ (raw_contents m 0 (2 + 8 * is i) (is i) ++ raw_bodies m 0 0 (is i))
 
-pub book_lent : (m : List ℕ) → sound_in m ≡ true → (size ≤ length m) × (shipments_in m ≤ most_shipments)
-unfolding sound_in book_in
-book_lent m h =
-    let rest = and_right (leb size (length m)) _ h in
-    let few = (book_in_order (book_in m) (and_right (flags_from m 0 (shipments_in m)) _ rest)).few in
-    let many = shipments_many m 0 0 (shipments_in m) in
-    (leb-true size (length m) (and_left (leb size (length m)) _ h), omega arith)
+pub book_few : (m : List ℕ) (n : ℕ) → sound_in m ≡ true → n ≡ shipments_in m → n ≤ most_shipments
+book_few m n h is = rw is (few_shipments m h)
 
 pub book_rows : (m : List ℕ) (n : ℕ) → sound_in m ≡ true → n ≡ shipments_in m → rows_in (shipments_from m 0 0 n) ≤ most_rows
 unfolding sound_in book_in
@@ -187,4 +151,4 @@ pub ruleset bodies = (bodies_begun, body_rows, body_room, bodies_on, bodies_done
 pub ruleset contents = (contents_begun, entry_room, contents_on, contents_done)
 
 -- and a whole book
-pub ruleset whole_book = (raw_is, book_rows, book_lent)
+pub ruleset whole_book = (raw_is, book_rows, book_few)

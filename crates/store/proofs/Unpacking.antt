@@ -5,29 +5,28 @@ use mathlib.Core.Bool.{Bool, true, false, ◌&&◌, and_assoc, false≢true}
 use mathlib.Core.List.{List, [], ◌∷◌, ◌++◌, append_assoc, append-nil}
 use Prim.Native.Nat.{ℕ, zero, suc, ◌+◌, ◌*◌, ◌-◌, ◌≤◌, ◌<◌}
 use native.Mathlib.Omega.{arith}
-use borrow.Author.Tests.{leb-true, le-leb, lt-leb}
-use lib.Dec.{leb, eqb}
+use borrow.Author.Tests.{eq-eqb, ne_eqb, leb-true, le-leb, lt-leb}
+use lib.Dec.{leb}
 use lib.ListN.{length, get_or, take, drop, set, length-set}
 use lib.Seq.{get_or-set_same}
 use Rattle.text.proofs.Branches.{and-true, first_no_lem, and_left, and_right, both_ways}
 use Rattle.model.specs.Shipment.{Shipment, most_shipments, most_rows}
 use Rattle.model.specs.Book.{Book, rows_in}
 use Rattle.model.specs.declared.Row.{Row}
-use Rattle.memory.specs.Layout.{head_size, row_size, size, head_at, head_bytes, row_bytes, IsHead}
+use Rattle.memory.specs.Layout.{head_size, row_size, size, head_bytes, row_bytes}
 use Rattle.memory.specs.Rows.{row_of}
 use Rattle.memory.specs.Heads.{flags_in_form, order_count_in, shipment_in}
 use Rattle.memory.specs.Read.{rows_from, shipment_at, shipments_from, flags_from, shipments_in, book_in}
 use Rattle.memory.specs.Inner.Enter.{HeadStored}
+use Rattle.memory.specs.Inner.Stored.{RowStored}
 use Rattle.memory.proofs.Parts.{number_heads, number_rows}
 use Rattle.memory.proofs.Frames.{heads_kept, with_heads, with_rows_lem, only_again}
 use Rattle.acts.specs.Inner.Place.{RowsStored}
 use Rattle.acts.proofs.RowsInTurn.{one_more_stored}
 use Rattle.book.proofs.Appending.{appended, shipments_alike}
-use Rattle.write.specs.Written.{put_at}
 use Rattle.store.specs.Inner.Walk.{head_from, count_from, body_from, rows_from_bytes, book_from, is_entry, whole_from, flags_from_bytes}
-use Rattle.store.specs.Inner.Unpack.{is_body, given_row, OrderStored, BodyUnpacked, BodiesUnpacked}
+use Rattle.store.specs.Inner.Unpack.{is_body, given_row, BodyUnpacked, BodiesUnpacked}
 use Rattle.store.proofs.Walks.{rows_many}
-use Rattle.store.proofs.Placing.{head_put}
 use Rattle.store.proofs.SoundMemory.{flags_same}
 
 -- a body, as code asks for it, by what is left behind its place
@@ -70,17 +69,16 @@ listed m bytes at k j (suc n) each =
 
 -- order after order
 pub one_more_unpacked : (bytes : List ℕ) (at : ℕ) {l m m' order : List ℕ} {k n : ℕ} → k + n < most_rows → RowsStored (given_row bytes at k) k n l m
-    → order ≡ take row_size (drop (at + row_size * n) bytes) → OrderStored order (k + n) m m' → RowsStored (given_row bytes at k) k (n + 1) l m'
+    → order ≡ take row_size (drop (at + row_size * n) bytes) → RowStored order (k + n) m m' → RowsStored (given_row bytes at k) k (n + 1) l m'
 one_more_unpacked bytes at {k = k} {n = n} there rest is stored =
     let place : k + n - k ≡ n = omega arith in
     one_more_stored there rest (stored.row ∙ ap row_of is ∙ ap (λ (j : ℕ). row_of (take row_size (drop (at + row_size * j) bytes))) (sym place)) stored.only
 
 -- a body: its head, and then its rows
-pub body_unpacked : (bytes : List ℕ) (i k at n : ℕ) {l m m' head : List ℕ} → head ≡ head_from bytes at → IsHead head → n ≡ count_from bytes at → i < most_shipments
-    → size ≤ length l → m ≡ put_at (head_at i) head l → RowsStored (given_row bytes (at + head_size) k) k n m m' → BodyUnpacked bytes i k at l m'
-body_unpacked bytes i k at n {l} {m} {m'} {head} is_head whole is_count few enough put rows =
+pub body_unpacked : (bytes : List ℕ) (i k at n : ℕ) {l m m' head : List ℕ} → head ≡ head_from bytes at → n ≡ count_from bytes at → i < most_shipments
+    → HeadStored head i l m → RowsStored (given_row bytes (at + head_size) k) k n m m' → BodyUnpacked bytes i k at l m'
+body_unpacked bytes i k at n {m' = m'} is_head is_count few stored rows =
     let start : at + head_size + row_size * 0 ≡ at + head_size = omega arith in
-    let stored : HeadStored head i l m = rw put (head_put head i l whole few enough) in
     record {
       head = heads_kept rows.only i few ∙ stored.bytes ∙ is_head;
       rows = rw (← is_count) (rw start at (listed m' bytes (at + head_size) k 0 n (λ j within.
@@ -234,9 +232,22 @@ module _ {bytes : List ℕ} {n : ℕ} {l m : List ℕ} {i at k : ℕ} (so_far : 
     flags = λ yes. absurd (false≢true yes);
   }
 
-  pub bodies_unpacked : {m' : List ℕ} → n ≤ i → size ≤ length m → m' ≡ set m 0 n → BodiesUnpacked bytes n (eqb at (length bytes)) l m'
+  -- and bytes behind the last body, or too few for it
+  pub bodies_left : n ≤ i → (at ≡ length bytes → ⊥) → BodiesUnpacked bytes n false l m
+  unfolding whole_from
+  bodies_left all other =
+      let none : n - i ≡ 0 = (let far = so_far.far in omega arith) in
+      record {
+        answer = sym (so_far.whole ∙ ap (λ (j : ℕ). whole_from bytes i k at j) none ∙ ne_eqb at (length bytes) other);
+        as_long = so_far.as_long;
+        number = λ yes. absurd (false≢true yes);
+        book = λ yes. absurd (false≢true yes);
+        flags = λ yes. absurd (false≢true yes);
+      }
+
+  pub bodies_unpacked : {m' : List ℕ} → n ≤ i → at ≡ length bytes → size ≤ length m → m' ≡ set m 0 n → BodiesUnpacked bytes n true l m'
   unfolding whole_from book_from flags_from_bytes book_in
-  bodies_unpacked {m'} all enough is =
+  bodies_unpacked {m'} all here enough is =
       let none : n - i ≡ 0 = (let far = so_far.far in omega arith) in
       let end : i ≡ n = (let far = so_far.far in omega arith) in
       let number : shipments_in m' ≡ n = ap (λ (l : List ℕ). get_or l 0 0) is ∙ get_or-set_same m 0 n 0 (omega arith) in
@@ -244,7 +255,7 @@ module _ {bytes : List ℕ} {n : ℕ} {l m : List ℕ} {i at k : ℕ} (so_far : 
       let rows : (r : ℕ) → row_bytes m' r ≡ row_bytes m r = λ r. ap (λ (l : List ℕ). row_bytes l r) is ∙ number_rows m n r in
       let alike = shipments_alike m m' 0 0 n (λ j from below. heads j) (λ r from below. rows r) in
       record {
-        answer = sym (so_far.whole ∙ ap (λ (j : ℕ). whole_from bytes i k at j) none);
+        answer = sym (so_far.whole ∙ ap (λ (j : ℕ). whole_from bytes i k at j) none ∙ eq-eqb at (length bytes) here);
         as_long = ap length is ∙ length-set m 0 n ∙ so_far.as_long;
         number = λ yes. number;
         book = λ yes.
@@ -256,4 +267,4 @@ module _ {bytes : List ℕ} {n : ℕ} {l m : List ℕ} {i at k : ℕ} (so_far : 
       }
 
 -- by which bodies are unpacked one after the other
-pub ruleset unpacking = (unpacking_begun, unpacking_on, body_room, bodies_refused, bodies_unpacked)
+pub ruleset unpacking = (unpacking_begun, unpacking_on, body_room, bodies_refused, bodies_left, bodies_unpacked)

@@ -2,65 +2,65 @@
 #![tactic(auto)]
 
 pub mod load;
+pub mod refusal;
 
-ghost use Rattle.std.specs.Prelude.{◌≡◌, true, ◌++◌, ◌+◌, ◌*◌, ◌≤◌, ◌<◌, length};
+ghost use Rattle.std.specs.Prelude.{◌≡◌, true, ◌++◌, ◌+◌, ◌*◌, ◌≤◌, ◌<◌};
+ghost use Rattle.epe.specs.Numbered.{numbered};
 ghost use Rattle.model.specs.Shipment.{most_shipments, most_rows};
 ghost use Rattle.model.specs.Book.{rows_in};
-ghost use Rattle.memory.specs.Layout.{head_size, row_size, size, head_bytes, row_bytes};
+ghost use Rattle.memory.specs.Layout.{head_size, row_size, head_bytes};
 ghost use Rattle.memory.specs.Read.{orders_at, shipments_from, shipments_in, sound_in, read_book};
 ghost use Rattle.memory.specs.Inner.Enter.{bytes_of};
 ghost use Rattle.write.specs.Writer.{HasRoom, Writes};
+ghost use Rattle.store.specs.Refusal.{number_of};
 ghost use Rattle.store.specs.Stored.{stored_into};
 ghost use Rattle.store.specs.Inner.Raw.{raw_orders, raw_bodies, raw_contents, raw_stored};
 
+use crate::refusal::Refusal;
 use acts::rows::rows_of;
-use memory::head::{head_bytes, orders};
-use memory::{AMOUNTS, FEES, HEAD_SIZE, MOST_ROWS, MOST_SHIPMENTS, REMAINDERS, STATES, shipments};
+use memory::{HEAD_SIZE, MOST_ROWS, MOST_SHIPMENTS, Memory, ROW_SIZE};
 use sound::is_sound;
-use write::{OUTPUT_TOO_SHORT, Writer, Writing};
-
-// "Book sound?"
-const UNSOUND: u64 = 10;
+use write::Writer;
 
 // The form that is stored, and the only one that is loaded.
 const FORM: u8 = 2;
 
-// The bytes of an entry of the contents table, and of an order. A head takes as many as in memory.
+// The bytes of an entry of the contents table. A head and an order take as many as in memory.
 const ENTRY: usize = 8;
 
-const ORDER: usize = 11;
-
 // The most bytes that a stored book takes.
-pub const MOST_STORED: usize = 2 + (ENTRY + HEAD_SIZE) * MOST_SHIPMENTS + ORDER * MOST_ROWS;
+pub const MOST_STORED: usize = 2 + (ENTRY + HEAD_SIZE) * MOST_SHIPMENTS + ROW_SIZE * MOST_ROWS;
 
 // Stores the book in lent memory in an output.
+// Kept: 2c: what writers share is `written_after` and one test; before that each asks its own questions.
 #[tactic(auto, using(crate::proofs::StoreAnswers::storing))]
-pub fn store(book: &[u8], output: &mut [u8]) -> Writing
-    ensures { record { answer = result; output = output.new } ≡ stored_into (read_book book.now) output.old }
+pub fn store(book: &[u8], output: &mut [u8]) -> Result<u64, Refusal>
+    ensures { record { answer = numbered number_of result; output = output.new } ≡ stored_into (read_book book.now) output.old }
 {
     if !is_sound(book) {
-        return Writing::Refused(UNSOUND);
+        return Err(Refusal::Unsound);
     }
-    let n = shipments(book);
-    let length = stored_length(book, n);
+    let memory = Memory::lent(book);
+    let n = memory.shipments();
+    let length = stored_length(&memory, n);
     if output.len() < length {
-        return Writing::Refused(OUTPUT_TOO_SHORT);
+        return Err(Refusal::TooShort);
     }
-    put_book(&mut Writer::new(output), book, n);
-    Writing::Written(length as u64)
+    put_book(&mut Writer::new(output), &memory, n);
+    Ok(length as u64)
 }
 
 // How many bytes n shipments take when they are stored.
-fn stored_length(memory: &[u8], n: usize) -> usize
-    requires { (n ≤ most_shipments) × (size ≤ length memory.now) }
+fn stored_length(memory: &Memory, n: usize) -> usize
+    requires { n ≤ most_shipments }
     ensures { result ≡ 2 + (8 + head_size) * n + row_size * rows_in (shipments_from memory.now 0 0 n) }
 {
-    2 + (ENTRY + HEAD_SIZE) * n + ORDER * rows_of(memory, n)
+    2 + (ENTRY + HEAD_SIZE) * n + ROW_SIZE * rows_of(memory, n)
 }
 
 // Puts the bytes of a sound book of n shipments.
 #[tactic(auto, using(write::proofs::Pieces::pieces, crate::proofs::Storing::whole_book))]
-fn put_book(output: &mut Writer, memory: &[u8], n: usize)
+fn put_book(output: &mut Writer, memory: &Memory, n: usize)
     requires { (sound_in memory.now ≡ true) × (n ≡ shipments_in memory.now) × HasRoom (raw_stored memory.now) output.old }
     ensures { Writes (raw_stored memory.now) output.old output.new }
 {
@@ -71,13 +71,14 @@ fn put_book(output: &mut Writer, memory: &[u8], n: usize)
 
 // Puts the contents table of n shipments.
 #[tactic(auto, using(crate::proofs::Storing::contents))]
-fn put_contents(output: &mut Writer, memory: &[u8], n: usize)
-    requires { (n ≤ most_shipments) × (size ≤ length memory.now) × HasRoom (raw_contents memory.now 0 (2 + 8 * n) n) output.old }
+fn put_contents(output: &mut Writer, memory: &Memory, n: usize)
+    requires { (n ≤ most_shipments) × HasRoom (raw_contents memory.now 0 (2 + 8 * n) n) output.old }
     ensures { Writes (raw_contents memory.now 0 (2 + 8 * n) n) output.old output.new }
 {
     let mut start = (2 + ENTRY * n) as u32;
+    // Kept: 3c: where heads lie only memory knows: above it a head is reached by its number.
     for i in 0..n {
-        let length = body_length(orders(head_bytes(memory, i)));
+        let length = body_length(memory.head(i).orders());
         put_entry(output, start, length);
         start += length;
     }
@@ -88,7 +89,7 @@ fn body_length(n: u64) -> u32
     requires { n < 65_536 }
     ensures { (result ≡ head_size + row_size * n) × (result < 800_000) }
 {
-    HEAD_SIZE as u32 + ORDER as u32 * n as u32
+    HEAD_SIZE as u32 + ROW_SIZE as u32 * n as u32
 }
 
 // Puts an entry of the contents table: two numbers of four bytes, least byte first.
@@ -103,11 +104,12 @@ fn put_entry(output: &mut Writer, start: u32, long: u32)
 
 // Puts the bodies of n shipments.
 #[tactic(auto, using(crate::proofs::Storing::bodies))]
-fn put_bodies(output: &mut Writer, memory: &[u8], n: usize)
-    requires { (n ≤ most_shipments) × (size ≤ length memory.now) × (rows_in (shipments_from memory.now 0 0 n) ≤ most_rows) × HasRoom (raw_bodies memory.now 0 0 n) output.old }
+fn put_bodies(output: &mut Writer, memory: &Memory, n: usize)
+    requires { (n ≤ most_shipments) × (rows_in (shipments_from memory.now 0 0 n) ≤ most_rows) × HasRoom (raw_bodies memory.now 0 0 n) output.old }
     ensures { Writes (raw_bodies memory.now 0 0 n) output.old output.new }
 {
     let mut k = 0;
+    // Kept: 3c: where heads lie only memory knows: above it a head is reached by its number.
     for i in 0..n {
         k = put_body(output, memory, i, k);
     }
@@ -115,50 +117,26 @@ fn put_bodies(output: &mut Writer, memory: &[u8], n: usize)
 
 // Puts the body of shipment i, its rows from the k-th on, and answers the first row behind them.
 #[tactic(auto, using(write::proofs::Pieces::pieces))]
-fn put_body(output: &mut Writer, memory: &[u8], i: usize, k: usize) -> usize
-    requires { (i < most_shipments) × (size ≤ length memory.now) × (k + orders_at memory.now i ≤ most_rows) × HasRoom (head_bytes memory.now i ++ raw_orders memory.now k (orders_at memory.now i)) output.old }
+fn put_body(output: &mut Writer, memory: &Memory, i: usize, k: usize) -> usize
+    requires { (i < most_shipments) × (k + orders_at memory.now i ≤ most_rows) × HasRoom (head_bytes memory.now i ++ raw_orders memory.now k (orders_at memory.now i)) output.old }
     ensures next { result ≡ k + orders_at memory.now i }
     ensures output_after { Writes (head_bytes memory.now i ++ raw_orders memory.now k (orders_at memory.now i)) output.old output.new }
 {
-    let head = head_bytes(memory, i);
-    let n = orders(head) as usize;
-    output.put_text(head);
+    let head = memory.head(i);
+    let n = head.orders() as usize;
+    output.put_text(head.bytes());
     put_orders(output, memory, k, n);
     k + n
 }
 
 // Puts n orders from row k on.
 #[tactic(auto, using(crate::proofs::Storing::orders))]
-fn put_orders(output: &mut Writer, memory: &[u8], k: usize, n: usize)
-    requires { (k + n ≤ most_rows) × (size ≤ length memory.now) × HasRoom (raw_orders memory.now k n) output.old }
+fn put_orders(output: &mut Writer, memory: &Memory, k: usize, n: usize)
+    requires { (k + n ≤ most_rows) × HasRoom (raw_orders memory.now k n) output.old }
     ensures { Writes (raw_orders memory.now k n) output.old output.new }
 {
+    // Kept: 3c: a row lies in columns, so there is no slice of rows to walk.
     for row in k..k + n {
-        output.put_text(&order_bytes(memory, row));
+        output.put_text(&memory.row_bytes(row));
     }
-}
-
-// The bytes of row k, gathered from the columns: its amount, its state, its fee and its remainder.
-// Kept: 3d: tried, and slower: 2,048 orders took 8.6 µs with the four parts put one by one, and take 4.5 µs.
-#[tactic(auto, using(crate::proofs::Storing::gathered))]
-fn order_bytes(memory: &[u8], k: usize) -> [u8; ORDER]
-    requires { (k < most_rows) × (size ≤ length memory.now) }
-    ensures { result ≡ row_bytes memory.now k }
-{
-    let amount = AMOUNTS + 4 * k;
-    let fee = FEES + 4 * k;
-    let remainder = REMAINDERS + 2 * k;
-    [
-        memory[amount],
-        memory[amount + 1],
-        memory[amount + 2],
-        memory[amount + 3],
-        memory[STATES + k],
-        memory[fee],
-        memory[fee + 1],
-        memory[fee + 2],
-        memory[fee + 3],
-        memory[remainder],
-        memory[remainder + 1],
-    ]
 }

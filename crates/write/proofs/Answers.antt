@@ -7,11 +7,11 @@ use Prim.Native.Nat.{ℕ, ◌<◌, ◌≤◌}
 use borrow.Author.Tests.{le-leb, lt-leb}
 use lib.Dec.{leb}
 use lib.ListN.{length}
+use Rattle.std.specs.Prelude.{Ok}
 use Rattle.epe.specs.Questions.{Question, ◌else_no◌}
 use Rattle.epe.proofs.QuestionLaws.{asked_no, asked_yes, asked_none}
 use Rattle.write.proofs.Pieces.{room_whole, whole_written}
 use Rattle.write.specs.Written.{written, wrote, leaving, written_after}
-use Rattle.write.specs.declared.Writing.TheVariants.{Written}
 
 module _ (text output : List ℕ) where
   pub alone_short : length output < length text → leaving output 30 ≡ written_after [] text output
@@ -19,10 +19,10 @@ module _ (text output : List ℕ) where
   alone_short short = sym (asked_no 30 [] (leaving output) (wrote text output) (lt-leb (length text) (length output) short))
 
   pub alone_written : {n : ℕ} {after : List ℕ} → length text ≤ length output → n ≡ length text → after ≡ written text output
-      → record { answer = Written n; output = after } ≡ written_after [] text output
+      → record { answer = Ok n; output = after } ≡ written_after [] text output
   unfolding written_after
   alone_written long is_long is_after =
-      (λ i. record { answer = Written (is_long i); output = is_after i })
+      (λ i. record { answer = Ok (is_long i); output = is_after i })
       ∙ sym
       (asked_yes 30 [] (leaving output) (wrote text output) (le-leb (length text) (length output) long)
       ∙ asked_none (leaving output) (wrote text output))
@@ -43,7 +43,7 @@ module _ (number : ℕ) (text output : List ℕ) where
   answers_short fit short = alone_short text output short ∙ sym (behind fit)
 
   pub answers_written : {fits : Bool} {n : ℕ} {after : List ℕ} → fits ≡ true → length text ≤ length output → n ≡ length text → after ≡ written text output
-      → record { answer = Written n; output = after } ≡ written_after ((fits else_no number) ∷ []) text output
+      → record { answer = Ok n; output = after } ≡ written_after ((fits else_no number) ∷ []) text output
   answers_written fit long is_long is_after = alone_written text output long is_long is_after ∙ sym (behind fit)
 
 -- by which a writer answers that asks 30 alone, and one that asks a question of its own before it

@@ -2,5 +2,6 @@
 pub mod Spelled
 pub mod Money
 pub mod Files
+pub mod TooShort
 pub mod Written
 pub mod Writer

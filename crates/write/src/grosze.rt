@@ -1,22 +1,25 @@
 // Money in its one spelling: zlote, a point and two digits of grosze.
 ghost use Rattle.std.specs.Prelude.{◌≡◌, []};
+ghost use Rattle.epe.specs.Numbered.{numbered};
 ghost use Rattle.write.specs.Money.{money_text};
+ghost use Rattle.write.specs.TooShort.{number_of};
 ghost use Rattle.write.specs.Writer.{HasRoom, Writes};
 ghost use Rattle.write.specs.Written.{written_after};
 
-use crate::{OUTPUT_TOO_SHORT, Writer, Writing, places_of};
+use crate::too_short::TooShort;
+use crate::{Writer, places_of};
 
 // Writes grosze at the start of an output.
 #[tactic(auto, using(crate::proofs::Answers::alone, crate::proofs::MoneySpelled::money_long))]
-pub fn write_money(grosze: u64, output: &mut [u8]) -> Writing
-    ensures { record { answer = result; output = output.new } ≡ written_after [] (money_text grosze) output.old }
+pub fn write_money(grosze: u64, output: &mut [u8]) -> Result<u64, TooShort>
+    ensures { record { answer = numbered number_of result; output = output.new } ≡ written_after [] (money_text grosze) output.old }
 {
     let length = places_of(grosze / 100) + 3;
     if output.len() < length {
-        return Writing::Refused(OUTPUT_TOO_SHORT);
+        return Err(TooShort);
     }
     put_money(&mut Writer::new(output), grosze);
-    Writing::Written(length as u64)
+    Ok(length as u64)
 }
 
 // Puts grosze.

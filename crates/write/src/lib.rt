@@ -1,20 +1,11 @@
-// Writing into lent outputs: bytes, texts and numbers, each at its place; and what a writer answers.
+// Writing into lent outputs: bytes, texts and numbers, each at its place.
 #![tactic(auto)]
 
 pub mod grosze;
+pub mod too_short;
 
 ghost use Rattle.std.specs.Prelude.{◌≡◌, [], ◌∷◌, ◌++◌, ◌≤◌, length};
 ghost use Rattle.write.specs.Spelled.{digits, places_of, spelled};
-
-// "30 when the lent output is too short"
-pub const OUTPUT_TOO_SHORT: u64 = 30;
-
-// What a writer answers: so many bytes are written, or the number of the question answered no.
-#[derive(Clone, Copy)]
-pub enum Writing {
-    Written(u64),
-    Refused(u64),
-}
 
 // An output that is written from its start on, and where the next text goes.
 #[derive(Drop)]
@@ -36,6 +27,7 @@ impl<'a> Writer<'a> {
     }
 
     // Puts a text.
+    // Kept: 4b: it is `copy_from_slice`, and the place moves on.
     pub fn put_text(&mut self, text: &[u8])
         requires { HasRoom text.now self.old }
         ensures { Writes text.now self.old self.new }

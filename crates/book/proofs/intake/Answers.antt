@@ -10,6 +10,3 @@ returns-in_err-judge_profile c =
 
 pub returns-then-not-is_sound : goal.returns-then-not-is_sound
 returns-then-not-is_sound c = memory_refused _ _ _ _ (sym c.in_ok-judge_profile.ensures) (sym c.is_sound.ensures ∙ c.if-not-is_sound.true)
-
-pub take_file-requires : goal.take_file-requires
-take_file-requires c = (sym c.in_ok-judge_profile.ensures, sym c.is_sound.ensures ∙ c.if-not-is_sound.false)

@@ -70,3 +70,8 @@ with_code_at m k code = set m (code_at k) code
 pub record CodeStored (m : List ℕ) (k code : ℕ) : Type 0 where
   pub row : k < most_rows → size ≤ length m → row_of (row_bytes (with_code_at m k code) k) ≡ with_state (state_of code) (row_of (row_bytes m k))
   pub only : k < most_rows → OnlyRow k m (with_code_at m k code)
+
+-- Row k is what the bytes of a row say, and nothing else moves.
+pub record RowStored (bytes : List ℕ) (k : ℕ) (m m' : List ℕ) : Type 0 where
+  pub row : row_of (row_bytes m' k) ≡ row_of bytes
+  pub only : OnlyRow k m m'

@@ -1,22 +1,15 @@
 -- How code goes from shipment to shipment, fills rows and adds them up. Only the contracts below `sheet` need these.
-use Rattle.std.specs.Prelude.{◌≡◌, Bool, true, cond, List, map, ℕ, zero, suc, ◌+◌, ◌≤◌, ◌<◌, eqb, leb, ltb, length, set}
-use Rattle.std.proofs.Math.Option.{Option, some, none}
+use Rattle.std.specs.Prelude.{◌≡◌, Bool, true, cond, List, ℕ, zero, suc, ◌+◌, ◌≤◌, ◌<◌, length, set, Option, Some, None}
 use Rattle.money.specs.Money.{WithinTotal}
 use Rattle.model.specs.Shipment.{most_shipments, most_rows}
-use Rattle.model.specs.Book.{Book, rows_in}
+use Rattle.model.specs.Book.{rows_in}
 use Rattle.model.specs.Sound.{shipments_sound}
 use Rattle.memory.specs.Layout.{size}
-use Rattle.memory.specs.Read.{orders_at, shipment_at, shipments_from, shipments_in, Sits}
+use Rattle.memory.specs.Read.{orders_at, shipment_at, shipments_from, Sits}
 use Rattle.sheet.specs.declared.division.Division.{Division}
-use Rattle.sheet.specs.declared.Line.{Line}
-use Rattle.sheet.specs.declared.Plan.{Plan}
-use Rattle.sheet.specs.declared.Sheeting.{Sheeting}
-use Rattle.sheet.specs.declared.Sheeting.TheVariants.{Filled, Refused}
 use Rattle.sheet.specs.declared.SheetRow.{SheetRow}
 use Rattle.sheet.specs.declared.Totals.{Totals}
-use Rattle.sheet.specs.declared.total.Adding.{Adding}
-use Rattle.sheet.specs.declared.total.Adding.TheVariants.{Added, Above}
-use Rattle.sheet.specs.Sheet.{row_for, plus_all, four_within, within_cap}
+use Rattle.sheet.specs.Sheet.{row_for, four_within, within_cap}
 use Rattle.sheet.specs.Inner.Parts.{amounts_in, fees_in}
 
 -- n shipments are left of a sound book, from head i and row k on.
@@ -49,29 +42,9 @@ division_within d = four_within d.accepted d.held d.free d.left
 abbrev pub plus_division : Division → Division → Division
 plus_division a b = record { accepted = a.accepted + b.accepted; held = a.held + b.held; free = a.free + b.free; left = a.left + b.left }
 
--- Totals with all rows added, or a total is above the cap.
-unfoldable pub adding_of : Totals → List SheetRow → Adding
-adding_of totals rows = cond (within_cap (plus_all totals rows)) (Added (plus_all totals rows)) Above
-
--- What comes of a sheet: the number of the question answered no, or 0, and the totals after.
-unfoldable pub plan_of : Option Book → ℕ → Totals → Plan
-plan_of none room totals = record { number = 10; totals = totals }
-plan_of (some book) room totals =
-    cond (leb (length book) room)
-    (cond (within_cap (plus_all totals (map row_for book))) (record { number = 0; totals = plus_all totals (map row_for book) })
-    (record { number = 26; totals = totals }))
-    (record { number = 25; totals = totals })
-
--- How many rows are then to fill, and what is answered.
-unfoldable pub rows_to_fill : List ℕ → ℕ → ℕ
-rows_to_fill m number = cond (eqb number 0) (cond (ltb (length m) size) 0 (shipments_in m)) 0
-
-unfoldable pub answer_of : ℕ → ℕ → Sheeting
-answer_of rows number = cond (eqb number 0) (Filled rows) (Refused number)
-
--- The row of a shipment, and the first row of the next.
-abbrev pub line_at : List ℕ → ℕ → ℕ → Line
-line_at m i k = record { row = row_for (shipment_at m i k); next = k + orders_at m i }
+-- Totals, if none of them is above the cap.
+unfoldable pub if_within : Totals → Option Totals
+if_within totals = cond (within_cap totals) (Some totals) None
 
 -- Where the rows of the i-th shipment begin, and its row of the sheet.
 abbrev pub start_of : List ℕ → ℕ → ℕ

@@ -7,11 +7,9 @@ use Rattle.fee.specs.Fee.{rate_cap}
 use Rattle.fee.specs.Inner.Difference.{difference_in}
 use Rattle.fee.specs.declared.Terms.{Terms}
 use Rattle.epe.specs.Profile.{each}
-use Rattle.model.specs.Shipment.{most_rows, sum_over, worth}
+use Rattle.model.specs.Shipment.{sum_over, worth}
 use Rattle.model.specs.Sound.{row_charged}
 use Rattle.model.specs.declared.Row.{Row}
-use Rattle.memory.specs.Layout.{row_bytes}
-use Rattle.memory.specs.Rows.{row_of}
 use Rattle.sound.specs.declared.charges.Charges.{Charges}
 use Rattle.sound.specs.declared.charges.Products.{Products}
 
@@ -24,9 +22,9 @@ fee_fits row = is_order_fee row.fee.0
 abbrev pub remainder_fits : Row → Bool
 remainder_fits row = ltb row.remainder rate_cap
 
--- What code answers of a row's place is what a test answers of the row.
-abbrev pub Tells : (ℕ → Bool → Type 0) → List ℕ → (Row → Bool) → Type 0
-Tells answers m test = (i : ℕ) (answer : Bool) → i < most_rows → answers i answer → answer ≡ test (row_of (row_bytes m i))
+-- What code answers of a row is what a test answers.
+abbrev pub Tells : (Row → Bool → Type 0) → (Row → Bool) → Type 0
+Tells answers test = (row : Row) (answer : Bool) → answers row answer → answer ≡ test row
 
 -- Without a rate.
 abbrev pub is_flat : ℕ → Row → Bool

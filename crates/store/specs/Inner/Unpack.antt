@@ -1,8 +1,8 @@
 -- Stored bytes unpacked into memory, body after body.
-use Rattle.std.specs.Prelude.{◌≡◌, Bool, true, ◌&&◌, List, ℕ, ◌+◌, ◌*◌, ◌-◌, leb, eqb, length, get_or, take, drop}
+use Rattle.std.specs.Prelude.{◌≡◌, Bool, true, false, ◌&&◌, List, ℕ, ◌+◌, ◌*◌, ◌-◌, leb, eqb, length, get_or, take, drop, Option, Some, None}
 use Rattle.model.specs.Shipment.{most_shipments, most_rows}
 use Rattle.model.specs.declared.Row.{Row}
-use Rattle.memory.specs.Layout.{head_size, row_size, head_bytes, row_bytes, OnlyRow, OnlyShipment}
+use Rattle.memory.specs.Layout.{head_size, row_size, head_bytes, OnlyShipment}
 use Rattle.memory.specs.Rows.{row_of}
 use Rattle.memory.specs.Read.{rows_from, flags_from, shipments_in, book_in}
 use Rattle.store.specs.Stored.{form}
@@ -14,6 +14,11 @@ is_body bytes i k at =
     leb (at + head_size) (length bytes)
     && (leb (k + count_from bytes at) most_rows && (leb (at + body_from bytes at) (length bytes) && is_entry bytes i at (body_from bytes at)))
 
+-- The number of its orders, or none where no body stands so.
+abbrev pub IsBody : List ℕ → ℕ → ℕ → ℕ → Option ℕ → Type 0
+IsBody bytes i k at (Some count) = (is_body bytes i k at ≡ true) × (count ≡ count_from bytes at)
+IsBody bytes i k at None = is_body bytes i k at ≡ false
+
 -- The form, the number of shipments, and room for the contents table.
 abbrev pub has_contents : List ℕ → Bool
 has_contents bytes =
@@ -23,11 +28,6 @@ has_contents bytes =
 -- The row of an order, where the first of those from a place on is row k.
 abbrev pub given_row : List ℕ → ℕ → ℕ → ℕ → Row
 given_row bytes at k r = row_of (take row_size (drop (at + row_size * (r - k)) bytes))
-
--- Row k is what the bytes of an order say, and nothing else moves.
-pub record OrderStored (order : List ℕ) (k : ℕ) (m m' : List ℕ) : Type 0 where
-  pub row : row_of (row_bytes m' k) ≡ row_of order
-  pub only : OnlyRow k m m'
 
 -- Head i and the rows from the k-th on are those of the body at a place, and nothing else moved.
 pub record BodyUnpacked (bytes : List ℕ) (i k at : ℕ) (m m' : List ℕ) : Type 0 where

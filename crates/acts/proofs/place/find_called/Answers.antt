@@ -8,14 +8,14 @@ use Rattle.acts.proofs.place.find_called.Goals as goal
 pub returns-then-is_called : goal.returns-then-is_called
 returns-then-is_called c =
     let loop = c.loop-i in
-    sym (found_here (called_in _) _ loop.i loop.row _ c.head_bytes-head.ensures.0 c.is_called.ensures c.loop-i-test.true c.if-is_called.true)
+    sym (found_here (called_in _) _ loop.i loop.row _ c.head-head.ensures c.is_called.ensures c.loop-i-test.true c.if-is_called.true)
     ∙ loop.invariant.1
 
 pub loop-i-preserved : goal.loop-i-preserved
 loop-i-preserved c =
     let loop = c.loop-i in (
       omega arith,
-      looked_on (called_in _) _ loop.i loop.row _ c.head_bytes-head.ensures.0 c.is_called.ensures c.loop-i-test.true c.orders.ensures.0 c.if-is_called.false
+      looked_on (called_in _) _ loop.i loop.row _ c.head-head.ensures c.is_called.ensures c.loop-i-test.true c.orders.ensures.0 c.if-is_called.false
           ∙ loop.invariant.1,
     )
 

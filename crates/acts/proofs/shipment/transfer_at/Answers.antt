@@ -4,24 +4,18 @@ use native.Mathlib.Omega.{arith}
 use borrow.Author.Tests.{leb-true}
 use Rattle.money.specs.Money.{sum_cap}
 use Rattle.money.proofs.Sums.{grosze_is, money_is}
-use Rattle.memory.proofs.HeadFields.{accepted_within}
 use Rattle.acts.proofs.ShipmentActs.{too_much_at, transferred_at}
 use Rattle.acts.proofs.shipment.transfer_at.Goals as goal
 
-pub accepted-before-requires : goal.accepted-before-requires
-accepted-before-requires c =
-    (c.head_bytes.ensures.1, accepted_within _ c.args.place.head c.args.place.row c.head_bytes.ensures.0 c.requires.0 c.money-money.result)
-
 pub overflow_add-total : goal.overflow_add-total
 overflow_add-total c =
-    let fits = accepted_within _ c.args.place.head c.args.place.row c.head_bytes.ensures.0 c.requires.0 c.money-money.result in
-    let first = c.grosze.ensures ∙ grosze_is _ _ c.accepted-before.ensures in
-    record { fits = omega (arith, fits, first, c.grosze-2.ensures, c.requires.1) }
+    let first = c.grosze.ensures ∙ grosze_is _ _ c.accepted-before.ensures.0 in
+    record { fits = omega (arith, c.accepted-before.ensures.1, first, c.grosze-2.ensures, c.requires.1) }
 
 pub returns-then-not-is_sum : goal.returns-then-not-is_sum
 returns-then-not-is_sum c =
     rw (← c.money-money.ensures, ← c.grosze-2.ensures)
-    (too_much_at _ _ _ c.requires.0 c.head_bytes.ensures.0 _ _ (c.grosze.ensures ∙ grosze_is _ _ c.accepted-before.ensures) (sym c.is_sum.ensures ∙ c.if-not-is_sum.true))
+    (too_much_at _ _ _ c.requires.0 _ _ c.at.ensures _ _ (c.grosze.ensures ∙ grosze_is _ _ c.accepted-before.ensures.0) (sym c.is_sum.ensures ∙ c.if-not-is_sum.true))
 
 pub of-requires : goal.of-requires
 of-requires c =
@@ -30,4 +24,4 @@ of-requires c =
 pub returns : goal.returns
 returns c =
     rw (c.store_accepted.ensures, grosze_is _ _ c.of.ensures, money_is _ _ c.of.ensures, ← c.money-money.ensures, ← c.grosze-2.ensures)
-    (transferred_at _ _ _ c.requires.0 c.head_bytes.ensures.0 _ _ (c.grosze.ensures ∙ grosze_is _ _ c.accepted-before.ensures) (sym c.is_sum.ensures ∙ c.if-not-is_sum.false))
+    (transferred_at _ _ _ c.requires.0 _ _ c.at.ensures _ _ (c.grosze.ensures ∙ grosze_is _ _ c.accepted-before.ensures.0) (sym c.is_sum.ensures ∙ c.if-not-is_sum.false))

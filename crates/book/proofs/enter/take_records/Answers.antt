@@ -4,7 +4,7 @@ use Rattle.acts.proofs.PassedOn.{passed_on}
 use Rattle.epe.specs.Profile.{terms_for}
 use Rattle.contents.specs.Steps.{Records, records_of, records_behind}
 use Rattle.contents.specs.declared.stated.Stated.{Stated}
-use Rattle.book.proofs.IntakeActs.{stated_as_set, stated_fit, opened, counted, contents_accepted, records_refused}
+use Rattle.book.proofs.IntakeActs.{stated_as_set, opened, counted, contents_accepted, records_refused}
 use Rattle.book.proofs.enter.take_records.Goals as goal
 use Rattle.book.proofs.enter.take_records.Goals.{Start}
 
@@ -18,9 +18,6 @@ are_behind : (c : Start) {records : Records}
     → records ≡ records_behind c.args.profile c.args.file.now
 are_behind c told =
     told ∙ ap (λ (stated : Stated). records_of c.args.profile.fields stated.count stated.sum stated.terms c.args.file.now) c.requires.6
-
-pub judge_records-requires : goal.judge_records-requires
-judge_records-requires c = (refl, stated_fit c.args.profile c.args.name c.requires.0 (is_terms (goal.at.judge_records-requires c).Start))
 
 pub enter_behind-requires : goal.enter_behind-requires
 enter_behind-requires c =

@@ -1,16 +1,15 @@
 -- `report::ope::put_records` puts the records row by row.
-use native.Mathlib.Omega.{arith}
 use Rattle.report.proofs.OrderPut.{order_room, recording_on}
 use Rattle.report.proofs.ope.put_records.Goals as goal
 
-pub put_order-running-requires : goal.put_order-running-requires
-put_order-running-requires c =
-    let so_far = c.loop-done.invariant in
-    let few = so_far.few in
-    let room = c.requires.rows_there.0 in
-    record { room = order_room so_far c.loop-done-test.true c.state-state.result c.state-state.ensures; few = omega arith }
+pub put_order-running-requires-clause-room : goal.put_order-running-requires-clause-room
+put_order-running-requires-clause-room c =
+    order_room c.in-Some.row (rw c.in-Some.ensures.steps at c.loop-row.invariant.0) c.state.ensures
 
-pub loop-done-preserved : goal.loop-done-preserved
-loop-done-preserved c =
-    recording_on c.loop-done.invariant c.loop-done-test.true c.state-state.result c.state-state.ensures
-    c.put_order-running.ensures.next c.put_order-running.ensures.output_after
+pub loop-row-preserved : goal.loop-row-preserved
+loop-row-preserved c =
+    let turn = c.loop-row.invariant in (
+      recording_on c.in-Some.row (rw c.in-Some.ensures.steps at turn.0) c.state.ensures c.put_order-running.ensures.next
+          c.put_order-running.ensures.output_after,
+      turn.1,
+    )

@@ -3,5 +3,5 @@ use Rattle.acts.specs.Inner.Place.{called_in}
 use Rattle.acts.proofs.PlaceInBook.{sits}
 use Rattle.report.proofs.ope.write_ope.Goals as goal
 
-pub write_at-requires : goal.write_at-requires
-write_at-requires c = sits (called_in _) c.in-Ok.ensures
+pub at-requires : goal.at-requires
+at-requires c = sits (called_in _) c.in_ok-place.ensures

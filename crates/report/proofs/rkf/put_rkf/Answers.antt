@@ -14,28 +14,28 @@ put_opening-requires c = opening_room _ _ _ _ c.requires
 pub put_text-requires : goal.put_text-requires
 unfolding start_text
 put_text-requires c =
-    let text = rkf_accepted c.args.own.now c.args.created c.args.source.now c.args.refusal (eq-eqb c.args.refusal 0 c.if-refusal-eq0.true) in
+    let text = rkf_accepted c.args.header.now.own.now c.args.header.now.created c.args.header.now.source.now c.args.refusal (eq-eqb c.args.refusal 0 c.if-refusal-eq0.true) in
     room_behind _ (bytes "1") (rw text at c.requires) c.put_opening.ensures
 
 pub returns-then-refusal-eq0 : goal.returns-then-refusal-eq0
 unfolding start_text
 returns-then-refusal-eq0 c =
-    rw (rkf_accepted c.args.own.now c.args.created c.args.source.now c.args.refusal (eq-eqb c.args.refusal 0 c.if-refusal-eq0.true)) (writes_then c.put_opening.ensures c.put_text.ensures)
+    rw (rkf_accepted c.args.header.now.own.now c.args.header.now.created c.args.header.now.source.now c.args.refusal (eq-eqb c.args.refusal 0 c.if-refusal-eq0.true)) (writes_then c.put_opening.ensures c.put_text.ensures)
 
 pub put_text-requires-2 : goal.put_text-requires-2
 unfolding start_text
 put_text-requires-2 c =
-    let text = rkf_refused c.args.own.now c.args.created c.args.source.now c.args.refusal (ne_eqb c.args.refusal 0 c.if-refusal-eq0.false) in
+    let text = rkf_refused c.args.header.now.own.now c.args.header.now.created c.args.header.now.source.now c.args.refusal (ne_eqb c.args.refusal 0 c.if-refusal-eq0.false) in
     room_first (bytes "0") (record_text 1 0 c.args.refusal) (room_behind _ (bytes "0" ++ record_text 1 0 c.args.refusal) (rw text at c.requires) c.put_opening.ensures)
 
 pub put_record-requires : goal.put_record-requires
 unfolding start_text
 put_record-requires c =
-    let text = rkf_refused c.args.own.now c.args.created c.args.source.now c.args.refusal (ne_eqb c.args.refusal 0 c.if-refusal-eq0.false) in
+    let text = rkf_refused c.args.header.now.own.now c.args.header.now.created c.args.header.now.source.now c.args.refusal (ne_eqb c.args.refusal 0 c.if-refusal-eq0.false) in
     room_behind (bytes "0") (record_text 1 0 c.args.refusal)
     (room_behind _ (bytes "0" ++ record_text 1 0 c.args.refusal) (rw text at c.requires) c.put_opening.ensures) c.put_text-2.ensures
 
 pub returns : goal.returns
 unfolding start_text
 returns c =
-    rw (rkf_refused c.args.own.now c.args.created c.args.source.now c.args.refusal (ne_eqb c.args.refusal 0 c.if-refusal-eq0.false)) (writes_then c.put_opening.ensures (writes_then c.put_text-2.ensures c.put_record.ensures))
+    rw (rkf_refused c.args.header.now.own.now c.args.header.now.created c.args.header.now.source.now c.args.refusal (ne_eqb c.args.refusal 0 c.if-refusal-eq0.false)) (writes_then c.put_opening.ensures (writes_then c.put_text-2.ensures c.put_record.ensures))

@@ -4,8 +4,6 @@ use Prim.Native.Nat.{ℕ}
 use native.Mathlib.Omega.{arith}
 use Rattle.money.specs.declared.Amount.{Amount}
 use Rattle.money.specs.declared.Fee.{Fee}
-use Rattle.memory.specs.Layout.{row_bytes}
-use Rattle.memory.specs.Rows.{row_of}
 use Rattle.sheet.proofs.Adding.{order_added}
 use Rattle.sheet.proofs.row.with_order.Goals as goal
 
@@ -18,7 +16,7 @@ fee_of fee = fee.0
 pub returns : goal.returns
 returns c =
     let start = c.args in (
-      order_added start.parts (row_of (row_bytes start.memory.now start.k)) c.amount-amount.ensures.0 c.fee-fee.ensures.0 c.holding-holding.ensures c.sum-amounts.ensures c.sum-held.ensures
+      order_added start.parts start.row.now c.amount-amount.ensures.0 c.fee-fee.ensures.0 c.holding-holding.ensures c.sum-amounts.ensures c.sum-held.ensures
           c.sum-fees.ensures c.sum-fees_held.ensures,
       omega (arith, ap grosze_of c.sum-amounts.ensures, c.amount-amount.ensures.1),
       omega (arith, ap fee_of c.sum-fees.ensures, c.fee-fee.ensures.1),

@@ -1,6 +1,5 @@
 -- `store::load::unpack_bodies` unpacks body after body.
 use native.Mathlib.Omega.{arith}
-use mathlib.Core.Path.{sym, ◌∙◌}
 use Rattle.store.proofs.Unpacking.{unpacking_begun, unpacking_on, bodies_unpacked}
 use Rattle.store.proofs.load.unpack_bodies.Goals as goal
 
@@ -10,10 +9,11 @@ loop-i-init c = unpacking_begun c.args.stored.now c.args.n c.args.memory.now c.r
 pub loop-i-preserved : goal.loop-i-preserved
 loop-i-preserved c =
     let loop = c.loop-i in
-    unpacking_on loop.invariant c.loop-i-test.true (sym c.is_body.ensures ∙ c.if-not-is_body.false)
-    c.requires.0 c.unpack_body.ensures (omega (arith, c.count_at-count.ensures.0)) (omega (arith, c.count_at-count.ensures.0))
+    let body = rw c.in_ok-count.was at c.orders_of_body.ensures in
+    let count = body.1 in
+    unpacking_on loop.invariant c.loop-i-test.true body.0 c.requires.0 c.unpack_body.ensures (omega arith) (omega arith)
 
 pub returns : goal.returns
 returns c =
     let loop = c.loop-i in
-    bodies_unpacked loop.invariant (omega (arith, c.loop-i-test.false)) (rw loop.invariant.as_long c.requires.1) c.store_shipments.ensures
+    bodies_unpacked loop.invariant (omega (arith, c.loop-i-test.false)) c.if-at-stored.false (rw loop.invariant.as_long c.requires.1) c.store_shipments.ensures

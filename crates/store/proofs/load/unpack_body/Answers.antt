@@ -10,5 +10,5 @@ use Rattle.store.proofs.load.unpack_body.Goals as goal
 pub returns : goal.returns
 returns c =
     let head = part_there c.args.stored.now c.args.at head_size (omega (arith, c.requires.2)) in
-    body_unpacked c.args.stored.now c.args.i c.args.k c.args.at c.orders-n.result head.0 head.1
-    (c.orders-n.ensures.0 ∙ ap order_count_in head.0) c.requires.0 c.requires.1 c.store_head.ensures c.unpack_orders.ensures
+    body_unpacked c.args.stored.now c.args.i c.args.k c.args.at c.orders-n.result head.0
+    (c.orders-n.ensures.0 ∙ ap order_count_in (c.of.ensures ∙ head.0)) c.requires.0 c.store_head.ensures c.unpack_orders.ensures

@@ -1,0 +1,21 @@
+-- `sheet::row::row_for` puts the identifier and the sums of either money together.
+use Rattle.money.specs.declared.Money.TheVariants.{K, O}
+use Rattle.sheet.proofs.Dividing.{all_needed, all_held}
+use mathlib.Core.Path.{ap, ◌∙◌}
+use Rattle.memory.specs.Heads.{shipment_in}
+use Rattle.sheet.specs.Sheet.{row_for}
+use Rattle.sheet.specs.Inner.Parts.{amounts_from, fees_from}
+use Rattle.sheet.proofs.row.row_for.Goals as goal
+
+pub division_for-amounts-requires : goal.division_for-amounts-requires
+division_for-amounts-requires c = (all_needed _ c.parts_for-parts.ensures K, all_held _ c.parts_for-parts.ensures K)
+
+pub division_for-fees-requires : goal.division_for-fees-requires
+division_for-fees-requires c = (all_needed _ c.parts_for-parts.ensures O, all_held _ c.parts_for-parts.ensures O)
+
+pub returns : goal.returns
+unfolding row_for shipment_in
+returns c =
+    let amounts = c.of.ensures ∙ ap amounts_from c.division_for-amounts.ensures.value in
+    let fees = c.of-2.ensures ∙ ap fees_from c.division_for-fees.ensures.value in
+    λ t. record { ident = c.ident-ident.ensures t; amounts = amounts t; fees = fees t }
