@@ -81,6 +81,7 @@ pub fn sheet(book: &[u8], table: &mut [SheetRow], totals: &mut Totals) -> Result
 }
 
 // Fills the first n rows of a table with those of a book.
+#[tactic(auto, using(crate::proofs::Filled::begins_next, crate::proofs::Filled::fills_next))]
 fn fill(table: &mut [SheetRow], book: &[u8], n: usize)
     requires { Fillable book.now (length table.old) n }
     ensures { table.new ≡ filled_to book.now n table.old }
