@@ -8,7 +8,6 @@ use native.Mathlib.Numerals.{add-one}
 use native.Mathlib.Omega.{arith}
 use borrow.Author.Tests.{lt-ltb, leb-true, eqb-true, eqb-false, eq-eqb, ne_eqb}
 use lib.Dec.{ltb, eqb}
-use lib.ListN.{length}
 use Rattle.text.proofs.Branches.{and_right, both_yes, both_ways, either_way}
 use Rattle.money.specs.Money.{WithinSum, sum_of, grosze_in}
 use Rattle.money.specs.declared.Money.{Money}

@@ -43,6 +43,7 @@ pub fn find_called(memory: &Memory, ident: Ident, n: usize) -> Option<Place>
     ensures { result ≡ place_from (called_in ident) memory.now 0 0 n }
 {
     let mut row = 0;
+    // Kept: 3c, 6c: a shipment's rows begin where those before it end, and `find` carries no place along.
     for i in 0..n {
         let head = memory.head(i);
         if head.is_called(ident) {

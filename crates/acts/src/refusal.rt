@@ -54,8 +54,8 @@ pub enum Refusal {
 impl From<Refusal> for u64 {
     ghost from_gives = { λ refusal number. number ≡ number_of refusal };
 
+    // Kept: 4d: the number of such an enum is had by `as` alone, and this is the one place that has it.
     fn from(refusal: Refusal) -> u64 {
-        // Kept: 4d: the number of such an enum is had by `as` alone, and this is the one place that has it.
         refusal as u64
     }
 }

@@ -122,6 +122,7 @@ fn clear(memory: &mut [u8], place: Place, route: Route, money: Money) -> Returne
     let n = LentShipment::at(memory, place).rows.len();
     let table = wait_table(route, money);
     let mut taken = Taken { worth: 0, count: 0 };
+    // Kept: 3c: rows are changed on the way, and lie in columns, so there is no slice of rows to walk.
     for done in 0..n {
         taken = clear_row(memory, place.row + done, taken, money, &table);
     }

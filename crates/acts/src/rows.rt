@@ -24,6 +24,7 @@ pub fn rows_of(memory: &Memory, n: usize) -> usize
 
 // Is any of some rows Faulty? Their shipment is Waiting, so that all others are Open, and Open has no bit in its byte. No row is asked a question, so that
 // many are taken at a time.
+// Kept: 2c: it joins the bytes of state themselves, and soundness the class of each: one function for both is no plainer, with a closure for the byte.
 #[tactic(auto, using(crate::proofs::RowWalks::looking_begun, crate::proofs::RowWalks::looking_on, crate::proofs::RowWalks::looking_done))]
 pub fn has_faulty_in(rows: &Rows) -> bool
     requires { SoundInWaiting rows.now }

@@ -87,6 +87,7 @@ fn take_records(
 }
 
 // Enters a shipment of the first n orders that a table keeps behind the i that there are, if there is room.
+// Kept: 6d: an order is kept as one number, so that 2,048 of them stand in 32 KiB of stack with all else.
 #[tactic(auto, using(crate::proofs::IntakeActs::enters_behind))]
 fn enter_behind(
     memory: &mut [u8],
@@ -112,6 +113,7 @@ fn enter_behind(
 }
 
 // Enters a shipment of the first n orders that a table keeps at a place.
+// Kept: 6d: an order is kept as one number, so that 2,048 of them stand in 32 KiB of stack with all else.
 #[tactic(auto, using(crate::proofs::Entering::shipment_entered))]
 fn enter(memory: &mut [u8], place: Place, name: Name, terms: Terms, n: u64, kept: &[u64])
     requires { Fits memory.old place.head place.row name terms n kept.now }
@@ -123,6 +125,7 @@ fn enter(memory: &mut [u8], place: Place, name: Name, terms: Terms, n: u64, kept
 }
 
 // Enters the first n orders that a table keeps, in the rows from the k-th on.
+// Kept: 6d: an order is kept as one number, so that 2,048 of them stand in 32 KiB of stack with all else.
 #[tactic(auto, using(crate::proofs::Entering::enters))]
 fn enter_orders(memory: &mut [u8], k: usize, n: usize, terms: Terms, kept: &[u64])
     requires { (k + n ≤ most_rows) × IsMemory memory.old × TermsFit terms × EachInRange (orders_in kept.now 0 n) × EachCharged terms (orders_in kept.now 0 n) }

@@ -20,20 +20,22 @@ use std::io;
 use std::io::Read;
 
 // The line of a call, for each form that an answer has.
-// Kept: 4f: what a line says of an answer is this program's own; a `Display` of it would need a type around each answer, since those are of acts.
+// Kept: 1e, 2a, 4f: what a line says of an answer is this program's own; a `Display` of it would need a type around each answer, since those are of acts.
 fn say_completion(rt: &impl Print, call: &str, completion: Result<(), Refusal>) -> io::Result<()> {
+    // Kept: 7a: a line for what is answered, and one for a refusal.
     match completion {
         Ok(()) => println!(rt; "{call}: done"),
         Err(refusal) => say_refused(rt, call, u64::from(refusal)),
     }
 }
 
-// Kept: 4f: what a line says of an answer is this program's own; a `Display` of it would need a type around each answer, since those are of acts.
+// Kept: 1e, 2a, 4f: what a line says of an answer is this program's own; a `Display` of it would need a type around each answer, since those are of acts.
 fn say_acceptance(
     rt: &impl Print,
     call: &str,
     acceptance: Result<Accepted, IntakeRefusal>,
 ) -> io::Result<()> {
+    // Kept: 7a: a line for what is answered, and one for a refusal.
     match acceptance {
         Ok(accepted) => {
             println!(rt;
@@ -45,7 +47,7 @@ fn say_acceptance(
     }
 }
 
-// Kept: 4f: what a line says of an answer is this program's own; a `Display` of it would need a type around each answer, since those are of acts.
+// Kept: 1e, 2a, 4f: what a line says of an answer is this program's own; a `Display` of it would need a type around each answer, since those are of acts.
 fn say_pairing(rt: &impl Print, call: &str, pairing: Pairing) -> io::Result<()> {
     match pairing {
         Pairing::Paired => println!(rt; "{call}: paired"),
@@ -56,28 +58,31 @@ fn say_pairing(rt: &impl Print, call: &str, pairing: Pairing) -> io::Result<()> 
     }
 }
 
-// Kept: 4f: what a line says of an answer is this program's own; a `Display` of it would need a type around each answer, since those are of acts.
+// Kept: 1e, 2a, 4f: what a line says of an answer is this program's own; a `Display` of it would need a type around each answer, since those are of acts.
 fn say_posting(rt: &impl Print, call: &str, posting: Result<Fee, Refusal>) -> io::Result<()> {
+    // Kept: 7a: a line for what is answered, and one for a refusal.
     match posting {
         Ok(fee) => println!(rt; "{call}: earned {} grosze", fee.0),
         Err(refusal) => say_refused(rt, call, u64::from(refusal)),
     }
 }
 
-// Kept: 4f: what a line says of an answer is this program's own; a `Display` of it would need a type around each answer, since those are of acts.
+// Kept: 1e, 2a, 4f: what a line says of an answer is this program's own; a `Display` of it would need a type around each answer, since those are of acts.
 fn say_payment(rt: &impl Print, call: &str, payment: Result<Amount, Refusal>) -> io::Result<()> {
+    // Kept: 7a: a line for what is answered, and one for a refusal.
     match payment {
         Ok(amount) => println!(rt; "{call}: paid {} grosze", amount.0),
         Err(refusal) => say_refused(rt, call, u64::from(refusal)),
     }
 }
 
-// Kept: 4f: what a line says of an answer is this program's own; a `Display` of it would need a type around each answer, since those are of acts.
+// Kept: 1e, 2a, 4f: what a line says of an answer is this program's own; a `Display` of it would need a type around each answer, since those are of acts.
 fn say_returning(
     rt: &impl Print,
     call: &str,
     returning: Result<Returned, Refusal>,
 ) -> io::Result<()> {
+    // Kept: 7a: a line for what is answered, and one for a refusal.
     match returning {
         Ok(returned) => say_returned(rt, call, returned),
         Err(refusal) => say_refused(rt, call, u64::from(refusal)),
@@ -85,7 +90,9 @@ fn say_returning(
 }
 
 // The line of a return that is made.
+// Kept: 1e, 2a, 4f: what a line says of an answer is this program's own; a `Display` of it would need a type around each answer, since those are of acts.
 fn say_returned(rt: &impl Print, call: &str, returned: Returned) -> io::Result<()> {
+    // Kept: 7b: two words.
     let moneys = match returned.sum {
         Sum::Amounts(_) => "amounts",
         Sum::Fees(_) => "fees",

@@ -8,6 +8,7 @@ use crate::state::Code;
 
 impl LentRow<'_> {
     // What soundness asks of the row's state, as bits to join.
+    // Kept: 1d: the bits of many rows are joined by one `|`, and three bools would be joined by three.
     pub fn class(&self) -> u8
         ensures { result ≡ class_of self.now.state }
     {
@@ -17,6 +18,7 @@ impl LentRow<'_> {
 
 impl Code {
     // What it asks of the state that the byte says. Nothing is looked up and no way is chosen by the byte, so that a loop takes many of them at a time.
+    // Kept: 1d: the bits of many rows are joined by one `|`, and three bools would be joined by three.
     fn class(self) -> u8
         ensures { result ≡ class_of (state_of self.0) }
     {

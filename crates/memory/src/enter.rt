@@ -17,6 +17,7 @@ use fee::{Terms, charge_on};
 use model::State;
 
 // Enters an order in row k, on the terms of its fee.
+// Kept: 6b: a column of the rows, which are faster in columns (docs/DECISIONS.md).
 #[tactic(auto, using(fee::proofs::Charged::never_above))]
 pub fn enter_order(memory: &mut [u8], k: usize, terms: Terms, order: Order)
     requires { (k < most_rows) × IsMemory memory.old × Enterable terms order }
@@ -53,6 +54,7 @@ fn entered_state(order: Order) -> State
 }
 
 // The head of a shipment of n orders as it is entered.
+// Kept: 2c, 4b: `copy_from_slice`, of an identifier before the other fields.
 fn head_of(name: Name, terms: Terms, n: u64) -> [u8; HEAD_SIZE]
     requires { (name.ident.len ≤ 17) × (name.kind ≤ 4) }
     ensures { result ≡ name.ident.bytes ++ fields_of name terms n }
@@ -63,6 +65,7 @@ fn head_of(name: Name, terms: Terms, n: u64) -> [u8; HEAD_SIZE]
 }
 
 // The head of a shipment as it is entered, but for the identifier.
+// Kept: 3d: a field to a place of its own, in the order of docs/LAYOUT.md.
 #[tactic(auto, unfolding(crate::specs::Number::with_number, crate::specs::Inner::Enter::fields_of))]
 fn fields(name: Name, terms: Terms, n: u64) -> [u8; HEAD_SIZE]
     requires { (name.ident.len ≤ 17) × (name.kind ≤ 4) }

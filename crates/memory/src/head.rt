@@ -86,6 +86,7 @@ impl<'a> Head<'a> {
 
     // Is the shipment Waiting?
     #[tactic(auto, using(crate::proofs::HeadLaws::waiting_byte))]
+    // Kept: 4c: memory that is not judged may hold any byte, which is no variant of an enum.
     pub fn is_waiting(&self) -> bool
         ensures { result ≡ is_waiting (stage_in self.now) }
     {
@@ -94,6 +95,7 @@ impl<'a> Head<'a> {
 
     // Is the shipment Paired?
     #[tactic(auto, using(crate::proofs::HeadLaws::paired_byte))]
+    // Kept: 4c: memory that is not judged may hold any byte, which is no variant of an enum.
     pub fn is_paired(&self) -> bool
         ensures { result ≡ is_paired (stage_in self.now) }
     {
@@ -101,6 +103,7 @@ impl<'a> Head<'a> {
     }
 
     // Are the bytes of stage and go-ahead in form?
+    // Kept: 4c: memory that is not judged may hold any byte, which is no variant of an enum.
     pub fn has_flags_in_form(&self) -> bool
         ensures { result ≡ flags_in_form self.now }
     {
@@ -108,6 +111,7 @@ impl<'a> Head<'a> {
     }
 
     // Did a go-ahead come?
+    // Kept: 4c: memory that is not judged may hold any byte, which is no variant of an enum.
     pub fn has_go_ahead(&self) -> bool
         ensures { result ≡ go_ahead_in self.now }
     {
@@ -159,6 +163,7 @@ impl<'a> Head<'a> {
     }
 
     // The transfers accepted of O.
+    // Kept: 2a: amounts and fees are two types, which document 01 names, and each a line.
     pub fn fees_accepted(&self) -> Fee
         requires { WithinSum (transfers_in O self.now) }
         ensures { result ≡ fee (transfers_in O self.now) }
@@ -167,6 +172,7 @@ impl<'a> Head<'a> {
     }
 
     // The surplus returned of a money.
+    // Kept: 2a: another field of the head, and two lines.
     pub fn returned(&self, money: Money) -> Sum
         requires { WithinSum (surplus_in money self.now) }
         ensures { result ≡ sum_of money (surplus_in money self.now) }
@@ -192,7 +198,7 @@ pub fn store_stage(memory: &mut [u8], i: usize, stage: Stage)
     ensures { memory.new ≡ with_stage_at memory.old i stage }
 {
     let at = HEADS + HEAD_SIZE * i;
-    memory[at + STAGE] = stage_byte(stage);
+    memory[at + STAGE] = stage as u8;
 }
 
 // Stores in head i that a go-ahead came.
@@ -215,6 +221,7 @@ pub fn store_accepted(memory: &mut [u8], i: usize, sum: Sum)
 }
 
 // Stores the surplus returned of a money in head i.
+// Kept: 2a: another field of the head, and three lines.
 pub fn store_returned(memory: &mut [u8], i: usize, sum: Sum)
     requires { (i < most_shipments) × IsMemory memory.old }
     ensures { memory.new ≡ with_surplus_at memory.old i (money_of_sum sum) (grosze_in sum) }
@@ -225,9 +232,11 @@ pub fn store_returned(memory: &mut [u8], i: usize, sum: Sum)
 }
 
 // Where the transfers accepted of a money lie.
+// Kept: 4c: where a field lies is a number of this crate alone.
 fn accepted_at(money: Money) -> usize
     ensures { (result ≡ accepted_at money) × (result + 8 ≤ head_size) }
 {
+    // Kept: 7b: a match has both fields side by side.
     match money {
         Money::K => ACCEPTED_K,
         Money::O => ACCEPTED_O,
@@ -235,22 +244,13 @@ fn accepted_at(money: Money) -> usize
 }
 
 // Where the surplus returned of a money lies.
+// Kept: 2a, 4c: where a field lies is a number of this crate alone; one function for both fields would match on the field too.
 fn returned_at(money: Money) -> usize
     ensures { (result ≡ returned_at money) × (result + 8 ≤ head_size) }
 {
+    // Kept: 7b: a match has both fields side by side.
     match money {
         Money::K => RETURNED_K,
         Money::O => RETURNED_O,
-    }
-}
-
-// The byte that says a stage.
-fn stage_byte(stage: Stage) -> u8
-    ensures { result ≡ stage_byte stage }
-{
-    match stage {
-        Stage::Waiting => 0,
-        Stage::Paired => 1,
-        Stage::Closed => 2,
     }
 }

@@ -40,12 +40,16 @@ pub const HEAD_SIZE: usize = 66;
 pub const ROW_SIZE: usize = 11;
 
 // Where the columns of the rows begin: amounts, fees, remainders and states.
+// Kept: 6b: rows side by side were measured in plain Rust, and slower: soundness of 2,048 took 3.2 to 3.4 µs against 2.2 to 2.7 (docs/DECISIONS.md).
 pub const AMOUNTS: usize = HEADS + HEAD_SIZE * MOST_SHIPMENTS;
 
+// Kept: 6b: rows side by side were measured in plain Rust, and slower: soundness of 2,048 took 3.2 to 3.4 µs against 2.2 to 2.7 (docs/DECISIONS.md).
 pub const FEES: usize = AMOUNTS + 4 * MOST_ROWS;
 
+// Kept: 6b: rows side by side were measured in plain Rust, and slower: soundness of 2,048 took 3.2 to 3.4 µs against 2.2 to 2.7 (docs/DECISIONS.md).
 pub const REMAINDERS: usize = FEES + 4 * MOST_ROWS;
 
+// Kept: 6b: rows side by side were measured in plain Rust, and slower: soundness of 2,048 took 3.2 to 3.4 µs against 2.2 to 2.7 (docs/DECISIONS.md).
 pub const STATES: usize = REMAINDERS + 2 * MOST_ROWS;
 
 // The bytes of a book.

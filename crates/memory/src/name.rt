@@ -26,21 +26,32 @@ impl Head<'_> {
     }
 
     // Is the shipment of that identifier?
+    // Kept: 4a: it is `==`, and a name for what a walk asks of each head.
     pub fn is_called(&self, wanted: Ident) -> bool
         ensures { result ≡ same_ident wanted (name_in self.now).ident }
     {
         wanted == self.ident()
     }
 
+    // Its name.
+    pub fn name(&self) -> Name
+        ensures { result ≡ name_in self.now }
+    {
+        Name {
+            ident: self.ident(),
+            date: Date(read::<4>(self.bytes, DATE)),
+            payment: self.bytes[PAYMENT],
+            kind: u64::from(self.bytes[KIND]),
+        }
+    }
+
     // Is the shipment of that name?
-    #[tactic(auto, using(text::proofs::Branches::branches), unfolding(model::specs::Book::same_name))]
+    // Kept: 4a: it is `==`, and a name for what a transfer asks.
+    #[tactic(auto, unfolding(model::specs::Book::same_name))]
     pub fn is_named(&self, name: Name) -> bool
         ensures { result ≡ same_name name (name_in self.now) }
     {
-        self.is_called(name.ident)
-            && (name.date.0 == read::<4>(self.bytes, DATE)
-                && (name.payment == self.bytes[PAYMENT]
-                    && name.kind == u64::from(self.bytes[KIND])))
+        name == self.name()
     }
 
     // Have two shipments the same identifier?
@@ -57,10 +68,11 @@ impl Head<'_> {
     {
         self.has_ident_in_form()
             && (is_real(Date(read::<4>(self.bytes, DATE)))
-                && (is_payment(self.bytes[PAYMENT]) && self.bytes[KIND] <= 4))
+                && (matches!(self.bytes[PAYMENT], b'A' | b'B') && self.bytes[KIND] <= 4))
     }
 
     // Is the identifier in form?
+    // Kept: 4a: it is `==` of two slices, behind two other questions.
     #[tactic(auto, using(text::proofs::Branches::branches), unfolding(epe::specs::Ident::ident_in_form))]
     fn has_ident_in_form(&self) -> bool
         ensures { result ≡ ident_in_form (name_in self.now).ident }
@@ -73,6 +85,7 @@ impl Head<'_> {
 }
 
 // Have two heads the same identifier? Its last byte and its length are compared as one number.
+// Kept: 4a: tried as `==` of the identifiers, and slower: whether 32 shipments are sound took 1.76 µs, and takes 1.35.
 fn are_namesakes(head: &[u8], other: &[u8]) -> bool
     requires { IsHead head.now × IsHead other.now }
     ensures { result ≡ same_ident (name_in head.now).ident (name_in other.now).ident }
@@ -80,11 +93,4 @@ fn are_namesakes(head: &[u8], other: &[u8]) -> bool
     read::<8>(head, 0) == read::<8>(other, 0)
         && (read::<8>(head, 8) == read::<8>(other, 8)
             && read::<2>(head, 16) == read::<2>(other, 16))
-}
-
-// Is the byte A or B?
-fn is_payment(byte: u8) -> bool
-    ensures { result ≡ (eqb byte 0x41 || eqb byte 0x42) }
-{
-    matches!(byte, b'A' | b'B')
 }

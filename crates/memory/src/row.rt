@@ -31,6 +31,7 @@ impl<'a> Model for LentRow<'a> {
 
 impl<'a> LentRow<'a> {
     // Its amount. What four bytes say is never above the cap of a sum.
+    // Kept: 6b: a column of the rows, which are faster in columns (docs/DECISIONS.md).
     #[tactic(auto, using(crate::proofs::RowLaws::amount_in_lem), unfolding(crate::specs::Rows::row_of))]
     pub fn amount(&self) -> Amount
         ensures { (result ≡ self.now.amount) × (result.0 < 2 ^ 32) }
@@ -39,6 +40,8 @@ impl<'a> LentRow<'a> {
     }
 
     // Its fee, likewise.
+    // Kept: 2a: amounts and fees are two types, which document 01 names, and each a line.
+    // Kept: 6b: a column of the rows, which are faster in columns (docs/DECISIONS.md).
     #[tactic(auto, using(crate::proofs::RowLaws::fee_in), unfolding(crate::specs::Rows::row_of))]
     pub fn fee(&self) -> Fee
         ensures { (result ≡ self.now.fee) × (result.0 < 2 ^ 32) }
@@ -50,6 +53,7 @@ impl<'a> LentRow<'a> {
     pub fn worth(&self, money: Money) -> u64
         ensures { (result ≡ worth money self.now) × (result < 2 ^ 32) }
     {
+        // Kept: 7a: amounts and fees are two columns of two types, and here one is chosen by the money.
         match money {
             Money::K => self.amount().0,
             Money::O => self.fee().0,
@@ -57,6 +61,7 @@ impl<'a> LentRow<'a> {
     }
 
     // Its remainder.
+    // Kept: 6b: a column of the rows, which are faster in columns (docs/DECISIONS.md).
     #[tactic(auto, using(crate::proofs::RowLaws::remainder_in), unfolding(crate::specs::Rows::row_of))]
     pub fn remainder(&self) -> u64
         ensures { (result ≡ self.now.remainder) × (result < 2 ^ 16) }
@@ -65,6 +70,7 @@ impl<'a> LentRow<'a> {
     }
 
     // Its byte of state.
+    // Kept: 6b: a column of the rows, which are faster in columns (docs/DECISIONS.md).
     #[tactic(auto, using(crate::proofs::RowLaws::code_in_lem), unfolding(crate::specs::Rows::row_of))]
     pub fn code(&self) -> Code
         ensures { (state_of result.0 ≡ self.now.state) × (result.0 < 256) }
@@ -84,6 +90,7 @@ impl<'a> LentRow<'a> {
 impl Memory<'_> {
     // The bytes of row k, gathered from the columns: its amount, its state, its fee and its remainder.
     // Kept: 3d, 4b: tried, and slower: 2,048 orders took 8.6 µs with the four parts put one by one, and take 4.5 µs.
+    // Kept: 6b: a column of the rows, which are faster in columns (docs/DECISIONS.md).
     #[tactic(auto, using(crate::proofs::RowBytes::gathered))]
     pub fn row_bytes(&self, k: usize) -> [u8; ROW_SIZE]
         requires { k < most_rows }
@@ -109,6 +116,7 @@ impl Memory<'_> {
 }
 
 // Stores the bytes of a row in the columns of row k.
+// Kept: 6b: a column of the rows, which are faster in columns (docs/DECISIONS.md).
 pub fn store_row(memory: &mut [u8], k: usize, row: &[u8])
     requires { (k < most_rows) × IsMemory memory.old × IsRow row.now }
     ensures { RowStored row.now k memory.old memory.new }
@@ -120,6 +128,7 @@ pub fn store_row(memory: &mut [u8], k: usize, row: &[u8])
 }
 
 // Stores a byte of state in row k.
+// Kept: 6b: a column of the rows, which are faster in columns (docs/DECISIONS.md).
 #[tactic(auto, unfolding(crate::specs::Inner::Stored::with_code_at))]
 pub fn store_code(memory: &mut [u8], k: usize, code: Code)
     requires { (k < most_rows) × IsMemory memory.old }

@@ -59,6 +59,7 @@ impl<'a> Rows<'a> {
     }
 
     // The sum of their fees.
+    // Kept: 2a: amounts and fees are two types, which document 01 names, and each a line; the walk is one.
     pub fn fees(&self) -> Fee
         ensures { (result ≡ fee (sum_over (worth O) self.now)) × WithinSum result.0 }
     {

@@ -5,18 +5,16 @@ ghost use Rattle.memory.specs.Inner.Stored.{waits_code, code_of};
 
 use model::State;
 
-// The last fault of an order.
-pub const LAST_FAULT: u64 = 10;
-
 // A byte of state.
 #[derive(Clone, Copy, PartialEq, Eq, Debug)]
 pub struct Code(pub u8);
 
 impl Code {
-    // The last byte that says a state: that of the last fault, with both waits.
-    pub const LAST: u8 = 8 + 4 * LAST_FAULT as u8 + 3;
+    // The last byte that says a state: that of the last fault, the tenth, with both waits.
+    pub const LAST: u8 = 8 + 4 * 10 + 3;
 
     // Does K wait?
+    // Kept: 4c: a bit of a byte, which memory that is not judged may hold, is no variant of an enum.
     pub fn k_waits(self) -> bool
         ensures { result ≡ k_waits self.0 }
     {
@@ -24,6 +22,7 @@ impl Code {
     }
 
     // Does O wait?
+    // Kept: 4c: a bit of a byte, which memory that is not judged may hold, is no variant of an enum.
     pub fn o_waits(self) -> bool
         ensures { result ≡ o_waits self.0 }
     {
@@ -31,6 +30,7 @@ impl Code {
     }
 
     // Is it the byte of an Undelivered order?
+    // Kept: 4c: asked of the byte, which memory that is not judged may hold, many at a time and before it is a state.
     pub fn says_undelivered(self) -> bool
         ensures { result ≡ says_undelivered self.0 }
     {
@@ -38,6 +38,7 @@ impl Code {
     }
 
     // Is it the byte of a Withdrawn order?
+    // Kept: 4c: asked of the byte, which memory that is not judged may hold, many at a time and before it is a state.
     pub fn says_withdrawn(self) -> bool
         ensures { result ≡ says_withdrawn self.0 }
     {
@@ -45,6 +46,7 @@ impl Code {
     }
 
     // Is it the byte of a Faulty order?
+    // Kept: 4c: asked of the byte, which memory that is not judged may hold, many at a time and before it is a state.
     pub fn says_faulty(self) -> bool
         ensures { result ≡ says_faulty self.0 }
     {
@@ -83,6 +85,7 @@ impl From<State> for Code {
     ghost from_gives = { λ state code. code.0 ≡ code_of state };
 
     fn from(state: State) -> Code {
+        // Kept: 7b: docs/LAYOUT.md has the byte of each state, and a match has them side by side.
         Code(match state {
             State::Open => 0,
             State::Posted => 1,

@@ -14,9 +14,11 @@ use model::Route;
 use money::Money;
 
 // What the wait of a money adds to a byte of state.
+// Kept: 1d, 4c: it is taken off the byte.
 pub fn wait_of(money: Money) -> u8
     ensures { (result ≡ by_money money 1 2) × (1 ≤ result) × (result ≤ 2) }
 {
+    // Kept: 7b: a match has both moneys side by side.
     match money {
         Money::K => 1,
         Money::O => 2,
@@ -35,6 +37,7 @@ pub fn wait_table(route: Route, money: Money) -> [u8; 256]
 }
 
 // Takes out of row k the wait that a table of waits says of it, and answers what it took from the byte of state.
+// Kept: 6b: a column of the rows, which are faster in columns (docs/DECISIONS.md).
 pub fn store_return(memory: &mut [u8], k: usize, table: &[u8]) -> u64
     requires { (k < most_rows) × IsMemory memory.old × IsWaitTable table.now }
     ensures { ((route : Route) (money : Money) → WaitTable route money table.now → RowReturned route money k memory.old memory.new result) × (result ≤ 2) }
@@ -47,6 +50,7 @@ pub fn store_return(memory: &mut [u8], k: usize, table: &[u8]) -> u64
 
 impl Code {
     // What the wait of a money on a route adds to the byte, and nothing where it does not wait.
+    // Kept: 1d: it is an entry of a table of bytes, each of which is taken off a byte of state.
     fn wait(self, route: Route, money: Money) -> u8
         ensures { result ≡ wait_in route money self.0 }
     {
@@ -67,6 +71,7 @@ impl Code {
     fn is_on(self, route: Route) -> bool
         ensures { result ≡ route_has route self.0 }
     {
+        // Kept: 7b: document 01 says of each route whose orders it returns, and a match has them side by side.
         match route {
             Route::Zwr => false,
             Route::Opr => self.says_faulty(),
@@ -79,6 +84,7 @@ impl Code {
     fn waits(self, money: Money) -> bool
         ensures { result ≡ by_money money (k_waits self.0) (o_waits self.0) }
     {
+        // Kept: 7a: each money has a bit of its own, asked by its name.
         match money {
             Money::K => self.k_waits(),
             Money::O => self.o_waits(),

@@ -9,6 +9,7 @@ use calendar::time::is_clock_time;
 use write::Writer;
 
 // What a report's header says: what the report is called, when it was created, and the identifier of what it reports on.
+// Kept: 6b: two fields of a header, and no columns of a table.
 #[derive(Clone, Copy, Drop)]
 pub struct Header<'a> {
     pub own: &'a [u8],

@@ -79,6 +79,7 @@ pub fn write_ope(
 }
 
 // Writes the report on a shipment.
+// Kept: 2c: what writers share is `written_after` and one test; before that each asks its own questions.
 #[tactic(auto, using(crate::proofs::OpeAnswers::ope_source, crate::proofs::OpeAnswers::ope_there), unfolding(memory::specs::Heads::shipment_in))]
 fn write_on(
     shipment: &LentShipment,

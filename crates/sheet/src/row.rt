@@ -2,14 +2,13 @@
 ghost use Rattle.std.specs.Prelude.{◌≡◌, ◌+◌, ◌<◌, ◌^◌};
 ghost use Rattle.model.specs.Shipment.{need_once_paired, held};
 ghost use Rattle.memory.specs.Lent.{shipment_of};
-ghost use Rattle.memory.specs.Inner.Holdings.{holding_table};
 ghost use Rattle.sheet.specs.Sheet.{row_for};
 ghost use Rattle.sheet.specs.Inner.Parts.{no_parts, with_order, parts_of, parts_once_paired, SmallParts, division_of};
 ghost use Rattle.sheet.specs.Inner.Filling.{DivisionWithin};
 
 use crate::division::Division;
 use crate::{Amounts, Fees, SheetRow};
-use memory::holding::holding_table;
+use memory::holding::Holdings;
 use memory::row::LentRow;
 use memory::rows::Rows;
 use memory::shipment::LentShipment;
@@ -80,24 +79,23 @@ fn no_parts() -> Parts
 fn parts_of(rows: &Rows) -> Parts
     ensures { result ≡ parts_of rows.now }
 {
-    let table = holding_table();
+    let holdings = Holdings::new();
     let mut parts = no_parts();
     for row in rows {
-        parts = with_order(parts, &row, &table);
+        parts = with_order(parts, &row, &holdings);
     }
     parts
 }
 
 // The parts with the order of a row.
-// Kept: 6d: the table is made once, by memory, and lent.
 #[tactic(auto, using(crate::proofs::Adding::order_sums))]
-fn with_order(parts: Parts, row: &LentRow, table: &[u64]) -> Parts
-    requires { (table.now ≡ holding_table) × SmallParts parts }
+fn with_order(parts: Parts, row: &LentRow, holdings: &Holdings) -> Parts
+    requires { SmallParts parts }
     ensures { (result ≡ with_order parts row.now) × (result.amounts.0 < parts.amounts.0 + 2 ^ 32) × (result.fees.0 < parts.fees.0 + 2 ^ 32) }
 {
     let amount = row.amount();
     let fee = row.fee();
-    let holding = row.holding(table);
+    let holding = row.holding(holdings);
     let amount_held = amount.0 * (holding % 2);
     let fee_held = fee.0 * (holding / 2);
     let amounts = Amount::sum(parts.amounts.0 + amount.0);

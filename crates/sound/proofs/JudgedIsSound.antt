@@ -7,21 +7,22 @@ use Prim.Native.Nat.{ℕ, ◌+◌, ◌≤◌, ◌<◌}
 use native.Mathlib.Omega.{arith}
 use borrow.Author.Tests.{le-leb, lt-leb, leb-true}
 use lib.Dec.{leb}
+use lib.ListN.{length}
+use Rattle.std.specs.Prelude.{Option, Some, None}
 use Rattle.text.proofs.Branches.{and_left, and_right, and-true, first_no_lem, second_no}
 use Rattle.money.specs.Money.{sum_cap, is_sum, WithinSum}
 use Rattle.money.specs.declared.Money.{Money}
 use Rattle.fee.specs.Fee.{terms_fit}
 use Rattle.fee.specs.declared.Terms.{Terms}
+use Rattle.epe.specs.Profile.{each}
 use Rattle.epe.specs.Name.{name_in_form}
 use Rattle.model.specs.Shipment.{most_rows, only_if, need}
-use Rattle.model.specs.Sound.{money_sound, shipment_sound}
+use Rattle.model.specs.Sound.{money_sound, row_charged, shipment_sound}
 use Rattle.memory.specs.Layout.{head_bytes}
 use Rattle.memory.specs.Heads.{name_in, terms_in, stage_in, flags_in_form, order_count_in, transfers_in, surplus_in, shipment_in}
 use Rattle.memory.specs.Read.{rows_from}
-use Rattle.model.specs.declared.Row.{Row}
 use Rattle.sound.specs.declared.tally.Tally.{Tally}
-use Rattle.sound.specs.Inner.Charges.{Charged}
-use Rattle.sound.specs.Inner.Tally.{tally_of, Tallied, paired_in, waiting_in, rows_fit, go_ahead_fits, is_covered, money_fits, moneys_fit, judged, JudgedIsSound}
+use Rattle.sound.specs.Inner.Tally.{tally_of, paired_in, waiting_in, rows_fit, go_ahead_fits, is_covered, money_fits, moneys_fit, judged, judged_if, JudgedIsSound}
 use Rattle.sound.specs.Inner.Walk.{sound_at}
 use Rattle.memory.proofs.Columns.{rows_many}
 use Rattle.sound.proofs.RowClasses.{rows_fit_lem, any_faulty_lem}
@@ -38,27 +39,17 @@ go_ahead_holds false faulty false t = refl
 
 pub judged_is_sound : JudgedIsSound
 unfolding shipment_sound money_sound need shipment_in rows_fit go_ahead_fits is_covered money_fits moneys_fit judged
-judged_is_sound head rows = rw (rows_fit_lem (terms_in head) (stage_in head) rows, any_faulty_lem rows, go_ahead_holds)
-
--- a tally as code has it is judged like the whole
-pub judged_alike : (head : List ℕ) (n : ℕ) (terms : Terms) (rows : List Row) (tally : Tally) → Tallied terms rows tally → judged head n tally ≡ judged head n (tally_of terms rows)
-unfolding judged rows_fit
-judged_alike head n terms rows tally found = by tally.charges.charged refl
+judged_is_sound head rows = by (each (row_charged (terms_in head)) rows) refl
   where
-    charges : Charged terms rows tally.charges
-    charges = found.charges_are
+    is_sound : Bool
+    is_sound = shipment_sound (shipment_in head rows)
 
-    never : (one : Tally) → one.charges.charged ≡ false → judged head n one ≡ false
-    never one none = second_no (leb 1 n) _ (first_no_lem (rows_fit head one) _ (rw none refl))
+    asked : Option Tally → Bool
+    asked tally = name_in_form (name_in head) && (terms_fit (terms_in head) && judged_if head (length rows) tally)
 
-    by : (t : Bool) → tally.charges.charged ≡ t → judged head n tally ≡ judged head n (tally_of terms rows)
-    by true each_is =
-        ap (judged head n)
-        (λ i. record {
-          classes = found.classes_are i;
-          charges = record { amounts = charges.amounts_are i; fees = charges.fees_are each_is i; charged = charges.charged_is i };
-        })
-    by false none = never tally none ∙ sym (never (tally_of terms rows) (sym charges.charged_is ∙ none))
+    by : (t : Bool) → each (row_charged (terms_in head)) rows ≡ t → is_sound ≡ asked (tally_of (terms_in head) rows)
+    by true charged = rw (rows_fit_lem (terms_in head) (stage_in head) rows, charged, any_faulty_lem rows, go_ahead_holds)
+    by false charged = rw (rows_fit_lem (terms_in head) (stage_in head) rows, charged, second_no (leb 1 (length rows)) false refl)
 
 -- the sums of a money, as code asks for them: both in range, then what they cover
 sums_wrong : (a b c : Bool) → (a && b) ≡ false → false ≡ (a && (b && c))
@@ -83,7 +74,7 @@ module _ (m head : List ℕ) (i k : ℕ) (head_is : head ≡ head_bytes m i) whe
     no_room h = rw (← head_is, flags, ← n_is, lt-leb (k + n) most_rows h)
 
     module _ (room : k + n ≤ most_rows) where
-      judged_there : sound_at m i k ≡ (name_in_form (name_in head) && (terms_fit (terms_in head) && judged head n (tally_of (terms_in head) (rows_from m k n))))
+      judged_there : sound_at m i k ≡ (name_in_form (name_in head) && (terms_fit (terms_in head) && judged_if head n (tally_of (terms_in head) (rows_from m k n))))
       unfolding sound_at
       judged_there =
           let many = rows_many m k n in
@@ -96,13 +87,18 @@ module _ (m head : List ℕ) (i k : ℕ) (head_is : head ≡ head_bytes m i) whe
         pub terms_wrong : terms_fit terms ≡ false → false ≡ sound_at m i k
         terms_wrong unfit = sym (judged_there ∙ second_no (name_in_form (name_in head)) _ (first_no_lem (terms_fit (terms_in head)) _ (ap terms_fit (sym terms_are) ∙ unfit)))
 
-        pub sound_as_judged : (tally : Tally) (r : Bool) → terms_fit terms ≡ true → Tallied terms (rows_from m k n) tally → r ≡ judged head n tally
-            → r ≡ sound_at m i k
-        sound_as_judged tally r fit found told =
-            let alike = judged_alike head n terms (rows_from m k n) tally found in
+        judged_so : terms_fit terms ≡ true → judged_if head n (tally_of terms (rows_from m k n)) ≡ sound_at m i k
+        judged_so fit =
             and-true _ _ _ named
-            (and-true _ _ _ (ap terms_fit (sym terms_are) ∙ fit) (told ∙ alike ∙ ap (λ (one : Terms). judged head n (tally_of one (rows_from m k n))) terms_are))
+            (and-true _ _ _ (ap terms_fit (sym terms_are) ∙ fit) (ap (λ (one : Terms). judged_if head n (tally_of one (rows_from m k n))) terms_are))
             ∙ sym judged_there
+
+        pub not_charged : terms_fit terms ≡ true → None ≡ tally_of terms (rows_from m k n) → false ≡ sound_at m i k
+        not_charged fit none = ap (judged_if head n) none ∙ judged_so fit
+
+        pub sound_as_judged : (tally : Tally) (r : Bool) → terms_fit terms ≡ true → Some tally ≡ tally_of terms (rows_from m k n) → r ≡ judged head n tally
+            → r ≡ sound_at m i k
+        sound_as_judged tally r fit is told = told ∙ ap (judged_if head n) is ∙ judged_so fit
 
 module _ (head : List ℕ) (money : Money) (need : ℕ) where
   abbrev accepted : ℕ

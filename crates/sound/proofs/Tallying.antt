@@ -7,11 +7,12 @@ use mathlib.Core.List.{List, [], ◌∷◌}
 use Prim.Native.Nat.{ℕ, ◌*◌, ◌≤◌}
 use native.Mathlib.Nat.{suc-mul, mul-le-mul}
 use native.Mathlib.Omega.{arith}
-use borrow.Author.Tests.{eqb-true, eq-eqb, le-leb}
+use borrow.Author.Tests.{eqb-true, eq-eqb, ne_eqb, le-leb}
 use lib.Bits.{bit_or, or_add_and, and_le_l, and_le_r}
 use lib.Dec.{eqb}
 use lib.ListN.{length}
-use Rattle.text.proofs.Branches.{and_left, and_right, both_yes, both_ways}
+use Rattle.std.specs.Prelude.{Some, None}
+use Rattle.text.proofs.Branches.{and_left, and_right, both_yes, first_no_lem, second_no, both_ways}
 use Rattle.money.specs.Money.{amount, fee, order_cap, WithinOrder, WithinSum}
 use Rattle.money.specs.declared.Amount.{Amount}
 use Rattle.money.specs.declared.Fee.{Fee}
@@ -25,7 +26,7 @@ use Rattle.model.specs.Sound.{row_charged}
 use Rattle.model.specs.declared.Row.{Row}
 use Rattle.memory.proofs.Columns.{Adding, adding_begun, adding_on, adding_done, adding_within}
 use Rattle.sound.specs.declared.charges.Products.{Products}
-use Rattle.sound.specs.Inner.Charges.{amount_fits, fee_fits, remainder_fits, is_flat, has_none, difference_of, is_even, Charged, Multiplied, WithProduct, SmallProducts}
+use Rattle.sound.specs.Inner.Charges.{amount_fits, fee_fits, remainder_fits, is_flat, has_none, difference_of, is_even, charges_of, SmallCharges, Multiplied, WithProduct, SmallProducts}
 
 and_yes : (t : Bool) → (t && true) ≡ t
 and_yes true = refl
@@ -153,29 +154,46 @@ module _ {terms : Terms} {rows : List Row} where
 pub fees_within_lem : (n : ℕ) (flat : ℕ) → n ≤ most_rows → WithinOrder flat → WithinSum (n * flat)
 fees_within_lem n flat few within = let most = mul-le-mul few within in omega arith
 
-module _ (rows : List Row) where
-  pub flat_charged : (flat : Fee) → WithinOrder flat.0 → {n : ℕ} → n ≡ length rows → n ≤ most_rows → {amounts : Amount} {fees : Fee} {charged : Bool}
-      → amounts ≡ amount (sum_over (worth K) rows) → WithinSum amounts.0 → fees ≡ fee (n * flat.0)
-      → charged ≡ (each amount_fits rows && (each (is_flat flat.0) rows && each has_none rows))
-      → Charged (record { flat = flat; rate = rate 0 }) rows (record { amounts = amounts; fees = fees; charged = charged })
-  flat_charged flat within {n} many few amounts_are amounts_low fees_are charged_is = record {
-    amounts_are = amounts_are;
-    charged_is = charged_is ∙ sym (charged_flat flat within rows);
-    fees_are = λ each_is.
-        let all = and_right (each amount_fits rows) _ (sym charged_is ∙ each_is) in
-        let sum = flat_sum flat.0 rows (and_left (each (is_flat flat.0) rows) (each has_none rows) all) in
-        fees_are ∙ ap fee (ap (λ (many : ℕ). many * flat.0) many ∙ sym sum);
-    amounts_low = amounts_low;
-    fees_low = rw fees_are (fees_within_lem n flat.0 few within);
-  }
+module _ (terms : Terms) (rows : List Row) where
+  abbrev all_charged : Bool
+  all_charged = each (row_charged terms) rows
 
-  pub rated_charged : (terms : Terms) {products : Products} {in_range : Bool} → Multiplied terms rows products
-      → in_range ≡ (each amount_fits rows && (each fee_fits rows && each remainder_fits rows))
-      → Charged terms rows (record { amounts = products.amounts; fees = products.fees; charged = in_range && eqb products.differences 0 })
-  rated_charged terms all in_range_is = record {
-    amounts_are = all.amounts_are;
-    charged_is = (λ i. in_range_is i && all.told i) ∙ sym (charged_apart terms rows);
-    fees_are = λ each_is. all.fees_are;
-    amounts_low = all.amounts_low;
-    fees_low = all.fees_low;
-  }
+  not_all : all_charged ≡ false → None ≡ charges_of terms rows
+  not_all h = rw h
+
+  all : {amounts : Amount} {fees : Fee} → all_charged ≡ true → amounts ≡ amount (sum_over (worth K) rows) → fees ≡ fee (sum_over (worth O) rows)
+      → Some (record { amounts = amounts; fees = fees }) ≡ charges_of terms rows
+  all h amounts_are fees_are = rw (h, amounts_are, fees_are)
+
+module _ (rows : List Row) (flat : Fee) (within : WithinOrder flat.0) where
+  pub flat_wrong : false ≡ (each amount_fits rows && (each (is_flat flat.0) rows && each has_none rows)) → None ≡ charges_of (without flat within rows) rows
+  flat_wrong h = not_all (without flat within rows) rows (charged_flat flat within rows ∙ sym h)
+
+  pub flat_charged : {n : ℕ} → n ≡ length rows → n ≤ most_rows → {amounts : Amount} {fees : Fee}
+      → amounts ≡ amount (sum_over (worth K) rows) → WithinSum amounts.0 → fees ≡ fee (n * flat.0)
+      → true ≡ (each amount_fits rows && (each (is_flat flat.0) rows && each has_none rows))
+      → (Some (record { amounts = amounts; fees = fees }) ≡ charges_of (without flat within rows) rows) × SmallCharges (record { amounts = amounts; fees = fees })
+  flat_charged {n} many few amounts_are amounts_low fees_are h =
+      let rest = and_right (each amount_fits rows) _ (sym h) in
+      let sum = flat_sum flat.0 rows (and_left (each (is_flat flat.0) rows) (each has_none rows) rest) in (
+        all (without flat within rows) rows (charged_flat flat within rows ∙ sym h) amounts_are
+            (fees_are ∙ ap fee (ap (λ (many : ℕ). many * flat.0) many ∙ sym sum)),
+        record { amounts_low = amounts_low; fees_low = rw fees_are (fees_within_lem n flat.0 few within) },
+      )
+
+module _ (terms : Terms) (rows : List Row) {products : Products} (found : Multiplied terms rows products) where
+  abbrev in_range : Bool
+  in_range = each amount_fits rows && (each fee_fits rows && each remainder_fits rows)
+
+  pub out_of_range : false ≡ in_range → None ≡ charges_of terms rows
+  out_of_range h = not_all terms rows (charged_apart terms rows ∙ first_no_lem in_range _ (sym h))
+
+  pub differing : (products.differences ≡ 0 → ⊥) → None ≡ charges_of terms rows
+  differing h = not_all terms rows (charged_apart terms rows ∙ second_no in_range _ (sym found.told ∙ ne_eqb products.differences 0 h))
+
+  pub rated_charged : true ≡ in_range → products.differences ≡ 0
+      → (Some (record { amounts = products.amounts; fees = products.fees }) ≡ charges_of terms rows) × SmallCharges (record { amounts = products.amounts; fees = products.fees })
+  rated_charged h none = (
+    all terms rows (charged_apart terms rows ∙ both_yes in_range _ (sym h) (sym found.told ∙ eq-eqb products.differences 0 none)) found.amounts_are found.fees_are,
+    record { amounts_low = found.amounts_low; fees_low = found.fees_low },
+  )

@@ -12,6 +12,7 @@ pub fn are_apart(memory: &Memory, n: usize) -> bool
     requires { n ≤ most_shipments }
     ensures { result ≡ apart_from memory.now 0 n }
 {
+    // Kept: 3c, 6c: tried as `all` over the numbers, and what that says of each number did not prove: `search` gave up at one of its limits.
     for i in 0..n {
         if !are_others(memory, i, i + 1, n - (i + 1)) {
             return false;

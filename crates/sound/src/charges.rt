@@ -1,25 +1,25 @@
-// What the orders of a shipment are charged: their amounts and fees added up, and whether each has an amount in range, and its fee.
-ghost use Rattle.std.specs.Prelude.{◌≡◌, Bool, ◌&&◌};
+// What the orders of a shipment are charged: their amounts and fees added up, where each has an amount in range, and its fee.
+ghost use Rattle.std.specs.Prelude.{◌≡◌, Bool, ◌&&◌, IfSome};
 ghost use Rattle.fee.specs.Fee.{TermsFit};
 ghost use Rattle.epe.specs.Profile.{each};
 ghost use Rattle.model.specs.declared.Row.{Row};
 ghost use Rattle.money.specs.Money.{WithinOrder};
-ghost use Rattle.sound.specs.Inner.Charges.{amount_fits, fee_fits, remainder_fits, is_flat, has_none, Tells, Charged, WithProduct, SmallProducts, Multiplied};
+ghost use Rattle.sound.specs.Inner.Charges.{amount_fits, fee_fits, remainder_fits, is_flat, has_none, Tells, charges_of, SmallCharges, WithProduct, SmallProducts, Multiplied};
 
 use fee::{Rate, Terms, difference};
 use memory::row::LentRow;
 use memory::rows::Rows;
 use money::{Amount, Fee, Grosze};
 
-// The sums of amounts and of fees, and whether each order is charged its fee. The fees are only added up right where each is.
+// The sums of amounts and of fees of orders of which each is charged its fee.
 #[derive(Clone, Copy)]
 pub struct Charges {
     pub amounts: Amount,
     pub fees: Fee,
-    pub charged: bool,
 }
 
 // Of orders: the sums of amounts and of fees, and the bits in which the two sides of any division differ.
+// Kept: 2c: the sums, with the bits in which divisions differ and not yet with what they say.
 #[derive(Clone, Copy)]
 pub struct Products {
     pub amounts: Amount,
@@ -27,10 +27,10 @@ pub struct Products {
     pub differences: u64,
 }
 
-// The charges of rows, on some terms.
-pub fn charges_in(rows: &Rows, terms: Terms) -> Charges
+// The charges of rows, on some terms, where each is charged its fee.
+pub fn charges_in(rows: &Rows, terms: Terms) -> Option<Charges>
     requires { TermsFit terms }
-    ensures { Charged terms rows.now result }
+    ensures { (result ≡ charges_of terms rows.now) × IfSome result SmallCharges }
 {
     if terms.rate.0 == 0 {
         return flat_charges(rows, terms.flat);
@@ -39,34 +39,35 @@ pub fn charges_in(rows: &Rows, terms: Terms) -> Charges
 }
 
 // Those without a rate: every fee is the flat part, and no remainder stands beside it.
-fn flat_charges(rows: &Rows, flat: Fee) -> Charges
+#[tactic(auto, using(crate::proofs::Tallying::flat_wrong, crate::proofs::Tallying::flat_charged))]
+fn flat_charges(rows: &Rows, flat: Fee) -> Option<Charges>
     requires { WithinOrder flat.0 }
-    ensures { Charged (record { flat = flat; rate = record { 0 = 0 } }) rows.now result }
+    ensures { (result ≡ charges_of (record { flat = flat; rate = record { 0 = 0 } }) rows.now) × IfSome result SmallCharges }
 {
+    if !are_charged_flat(rows, flat) {
+        return None;
+    }
     let amounts = rows.amounts();
     let fees = Fee::sum(rows.len() as u64 * flat.0);
-    Charges {
-        amounts,
-        fees,
-        charged: are_charged_flat(rows, flat),
-    }
+    Some(Charges { amounts, fees })
 }
 
 // Those with a rate.
-#[tactic(auto, using(crate::proofs::Tallying::rated_charged))]
-fn rated_charges(rows: &Rows, terms: Terms) -> Charges
+#[tactic(auto, using(crate::proofs::Tallying::out_of_range, crate::proofs::Tallying::differing, crate::proofs::Tallying::rated_charged))]
+fn rated_charges(rows: &Rows, terms: Terms) -> Option<Charges>
     requires { TermsFit terms }
-    ensures { Charged terms rows.now result }
+    ensures { (result ≡ charges_of terms rows.now) × IfSome result SmallCharges }
 {
     let products = products_in(rows, terms);
+    if !are_in_range(rows) {
+        return None;
+    }
+    if products.differences != 0 {
+        return None;
+    }
     let amounts = products.amounts;
     let fees = products.fees;
-    let charged = are_in_range(rows) & (products.differences == 0);
-    Charges {
-        amounts,
-        fees,
-        charged,
-    }
+    Some(Charges { amounts, fees })
 }
 
 // Has each row an amount in range, the flat part for its fee, and no remainder?

@@ -3,7 +3,7 @@ ghost use Rattle.std.specs.Prelude.{◌≡◌, ◌≤◌, ◌<◌};
 ghost use Rattle.money.specs.Money.{WithinSum, sum_of, grosze_in, money_of_sum};
 ghost use Rattle.fee.specs.Fee.{terms_fit};
 ghost use Rattle.model.specs.Shipment.{most_shipments, most_rows, only_if};
-ghost use Rattle.sound.specs.Inner.Tally.{paired_in, rows_fit, go_ahead_fits, is_covered, money_fits, moneys_fit, judged};
+ghost use Rattle.sound.specs.Inner.Tally.{paired_in, rows_fit, go_ahead_fits, is_covered, money_fits, moneys_fit, judged, SmallTally};
 ghost use Rattle.sound.specs.Inner.Walk.{sound_at, sound_from};
 
 use crate::tally::{ONLY_PAIRED, OUT_OF_RANGE, Tally, has_faulty, tally_by};
@@ -30,7 +30,7 @@ pub fn are_sound(memory: &Memory, n: usize) -> bool
 }
 
 // Is the shipment of head i sound, its rows from the k-th on?
-#[tactic(auto, using(text::proofs::Branches::told, fee::proofs::Charged::terms_within, crate::proofs::JudgedIsSound::flags_wrong, crate::proofs::JudgedIsSound::no_room, crate::proofs::JudgedIsSound::name_wrong, crate::proofs::JudgedIsSound::terms_wrong, crate::proofs::JudgedIsSound::sound_as_judged))]
+#[tactic(auto, using(text::proofs::Branches::told, fee::proofs::Charged::terms_within, crate::proofs::JudgedIsSound::flags_wrong, crate::proofs::JudgedIsSound::no_room, crate::proofs::JudgedIsSound::name_wrong, crate::proofs::JudgedIsSound::terms_wrong, crate::proofs::JudgedIsSound::not_charged, crate::proofs::JudgedIsSound::sound_as_judged))]
 fn is_sound_at(memory: &Memory, i: usize, k: usize) -> bool
     requires { (i < most_shipments) × (k ≤ most_rows) }
     ensures { result ≡ sound_at memory.now i k }
@@ -50,7 +50,10 @@ fn is_sound_at(memory: &Memory, i: usize, k: usize) -> bool
     if !do_terms_fit(terms) {
         return false;
     }
-    judge(&head, n, tally_by(&memory.rows(k, n as usize), terms))
+    let Some(tally) = tally_by(&memory.rows(k, n as usize), terms) else {
+        return false;
+    };
+    judge(&head, n, tally)
 }
 
 // Are the flat part and the rate in range?
@@ -63,7 +66,7 @@ fn do_terms_fit(terms: Terms) -> bool
 // Is a shipment of n orders sound, but for its name and its terms?
 #[tactic(auto, using(text::proofs::Branches::branches), unfolding(crate::specs::Inner::Tally::judged))]
 fn judge(head: &Head, n: u64, tally: Tally) -> bool
-    requires { WithinSum tally.charges.amounts.0 × WithinSum tally.charges.fees.0 }
+    requires { SmallTally tally }
     ensures { result ≡ judged head.now n tally }
 {
     1 <= n
@@ -76,9 +79,6 @@ fn judge(head: &Head, n: u64, tally: Tally) -> bool
 fn do_rows_fit(head: &Head, tally: Tally) -> bool
     ensures { result ≡ rows_fit head.now tally }
 {
-    if !tally.charges.charged {
-        return false;
-    }
     if head.is_paired() {
         return tally.classes < OUT_OF_RANGE;
     }
@@ -103,7 +103,7 @@ fn does_go_ahead_fit(head: &Head, tally: Tally) -> bool
 // Do the sums of both moneys fit?
 #[tactic(auto, using(text::proofs::Branches::branches), unfolding(money::specs::Money::grosze_in, crate::specs::Inner::Tally::moneys_fit, money::specs::Money::money_of_sum))]
 fn do_moneys_fit(head: &Head, tally: Tally) -> bool
-    requires { WithinSum tally.charges.amounts.0 × WithinSum tally.charges.fees.0 }
+    requires { SmallTally tally }
     ensures { result ≡ moneys_fit head.now tally }
 {
     let amounts = tally.charges.amounts;

@@ -1,7 +1,7 @@
 // The rows of a shipment, taken together for its soundness: column by column, and no loop leaves before its end, so that many rows are taken at a time.
-ghost use Rattle.std.specs.Prelude.{◌≡◌};
+ghost use Rattle.std.specs.Prelude.{◌≡◌, IfSome};
 ghost use Rattle.fee.specs.Fee.{TermsFit};
-ghost use Rattle.sound.specs.Inner.Tally.{joined, faulty_in, Tallied};
+ghost use Rattle.sound.specs.Inner.Tally.{joined, faulty_in, tally_of, SmallTally};
 
 use crate::charges::{Charges, charges_in};
 use fee::Terms;
@@ -14,20 +14,21 @@ pub const ONLY_PAIRED: u8 = 2;
 pub const OUT_OF_RANGE: u8 = 4;
 
 // What the rows of a shipment come to: the classes of their states joined, and their charges.
+// Kept: 1d: the bits of many rows are joined by one `|`, and three bools would be joined by three.
 #[derive(Clone, Copy)]
 pub struct Tally {
     pub classes: u8,
     pub charges: Charges,
 }
 
-// The tally of rows, on the terms of their fees.
-pub fn tally_by(rows: &Rows, terms: Terms) -> Tally
+// The tally of rows, on the terms of their fees, where each is charged its own.
+pub fn tally_by(rows: &Rows, terms: Terms) -> Option<Tally>
     requires { TermsFit terms }
-    ensures { Tallied terms rows.now result }
+    ensures { (result ≡ tally_of terms rows.now) × IfSome result SmallTally }
 {
+    let charges = charges_in(rows, terms)?;
     let classes = classes_in(rows);
-    let charges = charges_in(rows, terms);
-    Tally { classes, charges }
+    Some(Tally { classes, charges })
 }
 
 // Is any of the rows Faulty?
@@ -38,6 +39,7 @@ pub fn has_faulty(tally: Tally) -> bool
 }
 
 // The classes of their states, joined.
+// Kept: 1d: the bits of many rows are joined by one `|`, and three bools would be joined by three.
 #[tactic(auto, unfolding(crate::specs::Inner::Tally::joined))]
 fn classes_in(rows: &Rows) -> u8
     ensures { result ≡ joined 0 rows.now }

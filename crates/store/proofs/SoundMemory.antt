@@ -6,11 +6,11 @@ use mathlib.Core.List.{List, ◌++◌}
 use mathlib.Core.Option.{some}
 use Prim.Native.Nat.{ℕ, zero, suc, ◌+◌, ◌≤◌, ◌<◌}
 use native.Mathlib.Omega.{arith}
-use borrow.Author.Tests.{leb-true, le-leb, eq-eqb}
-use lib.Dec.{leb, eqb}
+use borrow.Author.Tests.{le-leb, eq-eqb}
+use lib.Dec.{eqb}
 use lib.ListN.{length, take, drop, length-append, length-drop, get_or-append}
 use lib.Seq.{length-take-le, take-append-le, drop-append-le}
-use Rattle.text.proofs.Branches.{and_left, and_right, both_yes}
+use Rattle.text.proofs.Branches.{both_yes}
 use Rattle.model.specs.Shipment.{most_shipments, most_rows}
 use Rattle.model.specs.Sound.{sound}
 use Rattle.model.proofs.StaysSound.{book_in_order}
@@ -18,7 +18,7 @@ use Rattle.memory.specs.Layout.{head_size, head_at, amount_at, fee_at, remainder
 use Rattle.memory.specs.Heads.{flags_in_form, shipment_in}
 use Rattle.memory.specs.Read.{orders_at, shipments_from, flags_from, shipments_in, book_in, sound_in, read_book}
 use Rattle.memory.proofs.Parts.{part_long}
-use Rattle.sound.proofs.ReadLaws.{shipments_many}
+use Rattle.sound.proofs.ReadLaws.{sound_parts}
 use Rattle.book.proofs.Appending.{shipments_alike}
 use Rattle.store.specs.Stored.{idents_held, Storable}
 
@@ -58,20 +58,16 @@ module _ (m : List ℕ) (h : sound_in m ≡ true) where
   n = shipments_in m
 
   pub long_enough : size ≤ length m
-  unfolding sound_in
-  long_enough = leb-true size (length m) (and_left (leb size (length m)) _ h)
+  long_enough = (sound_parts m h).enough
 
   pub flags_in_form_lem : flags_from m 0 n ≡ true
-  unfolding sound_in
-  flags_in_form_lem = and_left (flags_from m 0 n) _ (and_right (leb size (length m)) _ h)
+  flags_in_form_lem = (sound_parts m h).flags
 
   pub book_sound : sound (book_in m) ≡ true
-  unfolding sound_in
-  book_sound = and_right (flags_from m 0 n) _ (and_right (leb size (length m)) _ h)
+  book_sound = (sound_parts m h).book
 
   pub few_shipments : n ≤ most_shipments
-  unfolding book_in
-  few_shipments = let few = (book_in_order (book_in m) book_sound).few in let many = shipments_many m 0 0 n in omega arith
+  few_shipments = (sound_parts m h).few
 
   pub sound_storable : Storable (book_in m)
   unfolding book_in

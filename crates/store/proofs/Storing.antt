@@ -8,23 +8,18 @@ use native.Mathlib.Nat.{div-div-eq-div-mul}
 use native.Mathlib.Numerals.{add-one}
 use native.Mathlib.Omega.{arith}
 use mir.Syntax.{w32}
-use lib.Dec.{leb}
-use lib.ListN.{length}
 use Rattle.std.specs.Int.{to_le_bytes}
 use Rattle.model.specs.Shipment.{most_shipments, most_rows}
 use Rattle.model.specs.Book.{rows_in}
-use Rattle.memory.specs.Layout.{size, head_bytes, row_bytes}
-use Rattle.memory.specs.Read.{orders_at, shipments_from, flags_from, shipments_in, book_in, sound_in}
+use Rattle.memory.specs.Layout.{head_bytes, row_bytes}
+use Rattle.memory.specs.Read.{orders_at, shipments_from, shipments_in, book_in, sound_in}
 use Rattle.memory.specs.Inner.Enter.{bytes_of}
-use Rattle.sound.proofs.ReadLaws.{rows_next}
-use Rattle.text.proofs.Branches.{and_right}
-use Rattle.model.proofs.StaysSound.{book_in_order}
+use Rattle.sound.proofs.ReadLaws.{rows_next, sound_parts}
 use Rattle.write.specs.Writer.{HasRoom, Writes}
 use Rattle.write.specs.declared.Writer.{Writer}
 use Rattle.write.proofs.Pieces.{room_first, Left, all_left, left_behind, none_left}
 use Rattle.store.specs.Stored.{form}
 use Rattle.store.specs.Inner.Raw.{raw_orders, raw_bodies, raw_length, raw_contents, raw_stored}
-use Rattle.store.proofs.SoundMemory.{few_shipments}
 
 -- a number of four bytes
 pub four_bytes : (n : ℕ) → to_le_bytes w32 n ≡ bytes_of 4 n
@@ -45,11 +40,12 @@ module _ {m : List ℕ} {start : Writer} {k n : ℕ} {now : Writer} {r : ℕ} (s
   unfolding raw_orders
   next_order = let one : k + n - r ≡ suc (k + n - suc r) = omega arith in rw one at so_far.left
 
-  pub order_room : HasRoom (row_bytes m r) now
-  order_room = room_first (row_bytes m r) others next_order.room
+  module _ {row : List ℕ} (is : row ≡ row_bytes m r) where
+    pub order_room : HasRoom row now
+    order_room = rw is (room_first (row_bytes m r) others next_order.room)
 
-  pub orders_on : {next : Writer} → Writes (row_bytes m r) now next → OrdersPut m start k n next (r + 1)
-  orders_on put = rw add-one (record { left = left_behind (row_bytes m r) others next_order put })
+    pub orders_on : {next : Writer} → Writes row now next → OrdersPut m start k n next (r + 1)
+    orders_on put = rw add-one (record { left = left_behind (row_bytes m r) others next_order (rw is at put) })
 
 pub orders_done : {m : List ℕ} {start : Writer} {k n : ℕ} {now : Writer} {r : ℕ} → OrdersPut m start k n now r → k + n ≤ r → Writes (raw_orders m k n) start now
 unfolding raw_orders
@@ -134,12 +130,11 @@ unfolding raw_stored
 raw_is m n is = λ i. form ∷ is i ∷ (raw_contents m 0 (2 + 8 * is i) (is i) ++ raw_bodies m 0 0 (is i))
 
 pub book_few : (m : List ℕ) (n : ℕ) → sound_in m ≡ true → n ≡ shipments_in m → n ≤ most_shipments
-book_few m n h is = rw is (few_shipments m h)
+book_few m n h is = rw is (sound_parts m h).few
 
 pub book_rows : (m : List ℕ) (n : ℕ) → sound_in m ≡ true → n ≡ shipments_in m → rows_in (shipments_from m 0 0 n) ≤ most_rows
-unfolding sound_in book_in
-book_rows m n h is =
-    rw is (book_in_order (book_in m) (and_right (flags_from m 0 (shipments_in m)) _ (and_right (leb size (length m)) _ h))).rows_fit
+unfolding book_in
+book_rows m n h is = rw is (sound_parts m h).rows
 
 -- by which orders are put one after the other
 pub ruleset orders = (orders_begun, order_room, orders_on, orders_done)

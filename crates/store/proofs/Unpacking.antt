@@ -19,7 +19,7 @@ use Rattle.memory.specs.Heads.{flags_in_form, order_count_in, shipment_in}
 use Rattle.memory.specs.Read.{rows_from, shipment_at, shipments_from, flags_from, shipments_in, book_in}
 use Rattle.memory.specs.Inner.Enter.{HeadStored}
 use Rattle.memory.specs.Inner.Stored.{RowStored}
-use Rattle.memory.proofs.Parts.{number_heads, number_rows}
+use Rattle.memory.proofs.Parts.{part_there, number_heads, number_rows}
 use Rattle.memory.proofs.Frames.{heads_kept, with_heads, with_rows_lem, only_again}
 use Rattle.acts.specs.Inner.Place.{RowsStored}
 use Rattle.acts.proofs.RowsInTurn.{one_more_stored}
@@ -75,9 +75,12 @@ one_more_unpacked bytes at {k = k} {n = n} there rest is stored =
     one_more_stored there rest (stored.row ∙ ap row_of is ∙ ap (λ (j : ℕ). row_of (take row_size (drop (at + row_size * j) bytes))) (sym place)) stored.only
 
 -- a body: its head, and then its rows
-pub body_unpacked : (bytes : List ℕ) (i k at n : ℕ) {l m m' head : List ℕ} → head ≡ head_from bytes at → n ≡ count_from bytes at → i < most_shipments
-    → HeadStored head i l m → RowsStored (given_row bytes (at + head_size) k) k n m m' → BodyUnpacked bytes i k at l m'
-body_unpacked bytes i k at n {m' = m'} is_head is_count few stored rows =
+pub body_unpacked : (bytes : List ℕ) (i k at : ℕ) {l m m' lent : List ℕ} {n : ℕ} → HeadStored (take (at + head_size - at) (drop at bytes)) i l m
+    → RowsStored (given_row bytes (at + head_size) k) k n m m' → n ≡ order_count_in lent → lent ≡ take (at + head_size - at) (drop at bytes)
+    → at + body_from bytes at ≤ length bytes → i < most_shipments → BodyUnpacked bytes i k at l m'
+body_unpacked bytes i k at {m' = m'} {n = n} stored rows counted is_lent room few =
+    let is_head = (part_there bytes at head_size (omega arith)).0 in
+    let is_count : n ≡ count_from bytes at = counted ∙ ap order_count_in (is_lent ∙ is_head) in
     let start : at + head_size + row_size * 0 ≡ at + head_size = omega arith in
     record {
       head = heads_kept rows.only i few ∙ stored.bytes ∙ is_head;

@@ -14,7 +14,7 @@ ghost use Rattle.memory.specs.Inner.Enter.{bytes_of};
 ghost use Rattle.write.specs.Writer.{HasRoom, Writes};
 ghost use Rattle.store.specs.Refusal.{number_of};
 ghost use Rattle.store.specs.Stored.{stored_into};
-ghost use Rattle.store.specs.Inner.Raw.{raw_orders, raw_bodies, raw_contents, raw_stored};
+ghost use Rattle.store.specs.Inner.Raw.{raw_orders, raw_bodies, raw_length, raw_contents, raw_stored};
 
 use crate::refusal::Refusal;
 use acts::rows::rows_of;
@@ -76,19 +76,19 @@ fn put_contents(output: &mut Writer, memory: &Memory, n: usize)
     ensures { Writes (raw_contents memory.now 0 (2 + 8 * n) n) output.old output.new }
 {
     let mut start = (2 + ENTRY * n) as u32;
-    // Kept: 3c: where heads lie only memory knows: above it a head is reached by its number.
     for i in 0..n {
-        let length = body_length(memory.head(i).orders());
+        let length = body_length(memory, i);
         put_entry(output, start, length);
         start += length;
     }
 }
 
-// How long the body of a shipment of n orders is.
-fn body_length(n: u64) -> u32
-    requires { n < 65_536 }
-    ensures { (result ≡ head_size + row_size * n) × (result < 800_000) }
+// How long the body of shipment i is.
+fn body_length(memory: &Memory, i: usize) -> u32
+    requires { i < most_shipments }
+    ensures { (result ≡ raw_length memory.now i) × (result < 800_000) }
 {
+    let n = memory.head(i).orders();
     HEAD_SIZE as u32 + ROW_SIZE as u32 * n as u32
 }
 
@@ -109,7 +109,6 @@ fn put_bodies(output: &mut Writer, memory: &Memory, n: usize)
     ensures { Writes (raw_bodies memory.now 0 0 n) output.old output.new }
 {
     let mut k = 0;
-    // Kept: 3c: where heads lie only memory knows: above it a head is reached by its number.
     for i in 0..n {
         k = put_body(output, memory, i, k);
     }
@@ -135,7 +134,6 @@ fn put_orders(output: &mut Writer, memory: &Memory, k: usize, n: usize)
     requires { (k + n ≤ most_rows) × HasRoom (raw_orders memory.now k n) output.old }
     ensures { Writes (raw_orders memory.now k n) output.old output.new }
 {
-    // Kept: 3c: a row lies in columns, so there is no slice of rows to walk.
     for row in k..k + n {
         output.put_text(&memory.row_bytes(row));
     }

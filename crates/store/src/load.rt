@@ -126,7 +126,7 @@ fn is_entry(stored: &[u8], i: usize, start: u64, long: u64) -> bool
 }
 
 // Unpacks the body at a place as shipment i, its rows from the k-th on.
-#[tactic(auto, using(memory::proofs::Parts::part_there, write::proofs::Putting::put_length, crate::proofs::Unpacking::body_unpacked))]
+#[tactic(auto, using(memory::proofs::Parts::part_there))]
 fn unpack_body(memory: &mut [u8], stored: &[u8], i: usize, at: usize, k: usize)
     requires { (i < most_shipments) × IsMemory memory.old × (at + body_from stored.now at ≤ length stored.now) × (k + count_from stored.now at ≤ most_rows) }
     ensures { BodyUnpacked stored.now i k at memory.old memory.new }

@@ -1,5 +1,5 @@
 -- How code asks whether each order of a shipment is charged its fee: question by question, each of all rows.
-use Rattle.std.specs.Prelude.{◌≡◌, Bool, true, List, ℕ, ◌+◌, ◌^◌, ◌<◌, eqb, ltb}
+use Rattle.std.specs.Prelude.{◌≡◌, Bool, cond, List, ℕ, ◌+◌, ◌^◌, ◌<◌, eqb, ltb, Option, Some, None}
 use Rattle.std.specs.Int.Bits.{bit_or}
 use Rattle.money.specs.Money.{amount, fee, is_order_amount, is_order_fee, WithinSum}
 use Rattle.money.specs.declared.Money.TheVariants.{K, O}
@@ -40,11 +40,12 @@ difference_of terms row = difference_in terms row.amount.0 row.fee.0 row.remaind
 abbrev pub is_even : Terms → Row → Bool
 is_even terms row = eqb (difference_of terms row) 0
 
--- What is found of some rows.
-pub record Charged (terms : Terms) (rows : List Row) (charges : Charges) : Type 0 where
-  pub amounts_are : charges.amounts ≡ amount (sum_over (worth K) rows)
-  pub charged_is : charges.charged ≡ each (row_charged terms) rows
-  pub fees_are : charges.charged ≡ true → charges.fees ≡ fee (sum_over (worth O) rows)
+-- The charges of some rows, where each is charged its fee.
+abbrev pub charges_of : Terms → List Row → Option Charges
+charges_of terms rows =
+    cond (each (row_charged terms) rows) (Some (record { amounts = amount (sum_over (worth K) rows); fees = fee (sum_over (worth O) rows) })) None
+
+pub record SmallCharges (charges : Charges) : Type 0 where
   pub amounts_low : WithinSum charges.amounts.0
   pub fees_low : WithinSum charges.fees.0
 
