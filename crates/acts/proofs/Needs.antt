@@ -15,9 +15,7 @@ use Rattle.model.specs.declared.Row.{Row}
 use Rattle.model.specs.declared.Stage.{Stage}
 use Rattle.model.specs.declared.Stage.TheVariants.{Waiting, Paired, Closed}
 use Rattle.model.proofs.SoundParts.{in_order}
-use Rattle.memory.specs.Heads.{stage_in, shipment_in}
 use Rattle.memory.specs.Read.{shipment_at, Sits}
-use Rattle.memory.proofs.HeadFields.{rows_are, waiting_is}
 use Rattle.acts.specs.Inner.Waiting.{SoundInWaiting}
 
 -- nothing is missing of a need that is covered
@@ -36,22 +34,25 @@ pub neither : (t u : Bool) → (not t && not u) ≡ not (t || u)
 neither true u = refl
 neither false u = refl
 
-module _ (m : List ℕ) (i k : ℕ) (sits : Sits m i k) (head : List ℕ) (rows : List Row) (is : shipment_in head rows ≡ shipment_at m i k) where
+module _ (m : List ℕ) (i k : ℕ) (sits : Sits m i k) (t : Shipment) (is : t ≡ shipment_at m i k) (rows : List Row) (rows_are : rows ≡ t.rows) where
   abbrev s : Shipment
   s = shipment_at m i k
 
+  all : rows ≡ s.rows
+  all = rows_are ∙ ap (λ (s : Shipment). s.rows) is
+
   pub need_is : (money : Money) → sum_over (worth money) rows ≡ need money s
   unfolding need
-  need_is money = ap (sum_over (worth money)) (rows_are head rows is)
+  need_is money = ap (sum_over (worth money)) all
 
   pub faulty_is : any_faulty rows ≡ any_faulty s.rows
-  faulty_is = ap any_faulty (rows_are head rows is)
+  faulty_is = ap any_faulty all
 
-  pub rows_waiting : {waiting : Bool} → waiting ≡ is_waiting (stage_in head) → waiting ≡ true → SoundInWaiting rows
+  pub rows_waiting : {waiting : Bool} → waiting ≡ is_waiting t.stage → waiting ≡ true → SoundInWaiting rows
   rows_waiting is-waiting held =
-      let here = sym (is-waiting ∙ waiting_is head rows is) ∙ held in
+      let here = sym (is-waiting ∙ ap (λ (s : Shipment). is_waiting s.stage) is) ∙ held in
       let terms = s.agreed.terms in
       record {
         terms = terms;
-        is = (λ t. rows_sound terms (sym (stage_is s.stage here) t) (rows_are head rows is t)) ∙ (in_order s sits.sound).rows_sound;
+        is = (λ u. rows_sound terms (sym (stage_is s.stage here) u) (all u)) ∙ (in_order s sits.sound).rows_sound;
       }

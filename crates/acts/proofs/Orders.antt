@@ -22,7 +22,7 @@ use Rattle.model.specs.declared.Row.{Row}
 use Rattle.model.specs.declared.State.{State}
 use Rattle.memory.specs.Layout.{row_bytes}
 use Rattle.memory.specs.Rows.{row_of}
-use Rattle.memory.specs.Heads.{stage_in, shipment_in}
+use Rattle.memory.specs.Heads.{shipment_in}
 use Rattle.memory.specs.Read.{rows_from, orders_at, shipment_at, Sits}
 use Rattle.memory.specs.Inner.Stored.{code_of, with_code_at}
 use Rattle.memory.proofs.Frames.{row_among}
@@ -32,7 +32,7 @@ use Rattle.acts.specs.Inner.Handled.{handled_as}
 use Rattle.acts.specs.Inner.Place.{ActAt}
 use Rattle.acts.specs.declared.order.Handled.{Handled}
 use Rattle.acts.proofs.RowLaws.{row_at, rows_set}
-use Rattle.memory.proofs.HeadFields.{rows_are, paired_is, orders_are}
+use Rattle.memory.proofs.Columns.{rows_many}
 use Rattle.acts.proofs.ShipmentChanged.{refused_at, rows_changed}
 
 becomes_in_range : (deed : Deed) → fault_in_range (becomes deed) ≡ true
@@ -56,26 +56,30 @@ handled_says Pay row = refl
 handled_says MarkUndelivered row = refl
 handled_says Withdraw row = refl
 
-module _ (m : List ℕ) (i k : ℕ) (deed : Deed) (number : ℕ) (head : List ℕ) (rows : List Row) (is : shipment_in head rows ≡ shipment_at m i k) where
+module _ (m : List ℕ) (i k : ℕ) (deed : Deed) (number : ℕ) (t : Shipment) (is : t ≡ shipment_at m i k) where
   abbrev s : Shipment
   s = shipment_at m i k
 
   -- "Paired? 19"
-  module _ {paired : Bool} (is-paired : paired ≡ is_paired (stage_in head)) where
+  module _ {paired : Bool} (is-paired : paired ≡ is_paired t.stage) where
     paired_test : is_paired s.stage ≡ paired
-    paired_test = sym (is-paired ∙ paired_is head rows is)
+    paired_test = sym (is-paired ∙ ap (λ (s : Shipment). is_paired s.stage) is)
 
     pub unpaired_at : paired ≡ false → ActAt m i k (on_order deed number) (Refused 19) m
     unfolding on_order
     unpaired_at unpaired = refused_at (asked_no 19 _ _ _ (paired_test ∙ unpaired))
 
     -- "Order number from 1 to the count? 20"
-    module _ (held : paired ≡ true) {n : ℕ} (is_count : n ≡ length rows) {within : Bool} (is_within : within ≡ between 1 n number) where
+    module _ (held : paired ≡ true) (rows : List Row) (rows_are : rows ≡ t.rows) {n : ℕ} (is_count : n ≡ length rows) {within : Bool} (is_within : within ≡ between 1 n number) where
+      all : rows ≡ s.rows
+      all = rows_are ∙ ap (λ (s : Shipment). s.rows) is
+
       count_is : n ≡ orders_at m i
-      count_is = orders_are m i k head rows is is_count
+      unfolding shipment_in
+      count_is = is_count ∙ ap length all ∙ rows_many m k (orders_at m i)
 
       within_is : between 1 (length s.rows) number ≡ within
-      within_is = ap (λ count. between 1 count number) (ap length (sym (rows_are head rows is)) ∙ sym is_count) ∙ sym is_within
+      within_is = ap (λ count. between 1 count number) (ap length (sym all) ∙ sym is_count) ∙ sym is_within
 
       pub no_order_at : within ≡ false → ActAt m i k (on_order deed number) (Refused 20) m
       unfolding on_order
@@ -103,10 +107,10 @@ module _ (m : List ℕ) (i k : ℕ) (deed : Deed) (number : ℕ) (head : List �
         row_is = sym (row_at m k (orders_at m i) (number - 1) no_order (omega (arith, from_one, to_count)))
 
         -- "State fits? 21"
-        module _ {order : Row} (is_order : (none : Row) → order ≡ get_or rows (number - 1) none) {state : State} (state_is : state ≡ order.state)
+        module _ (again : List Row) (again_are : again ≡ t.rows) {order : Row} (is_order : (none : Row) → order ≡ get_or again (number - 1) none) {state : State} (state_is : state ≡ order.state)
             {fitting : Bool} (is_fitting : fitting ≡ fits deed state) where
           order_is : order_at number s ≡ order
-          order_is = sym (is_order no_order ∙ ap (λ (rows : List Row). get_or rows (number - 1) no_order) (rows_are head rows is))
+          order_is = sym (is_order no_order ∙ ap (λ (rows : List Row). get_or rows (number - 1) no_order) (again_are ∙ ap (λ (s : Shipment). s.rows) is))
 
           fitting_is : fits deed (order_at number s).state ≡ fitting
           fitting_is = ap (λ (order : Row). fits deed order.state) order_is ∙ sym (is_fitting ∙ ap (fits deed) state_is)

@@ -14,11 +14,9 @@ use Rattle.model.specs.Shipment.{Shipment, accepted, is_waiting, sum_over, worth
 use Rattle.model.specs.Calls.{Refused, Done, IsPaired, Short, Outcome, leave, gone_ahead, paired}
 use Rattle.model.specs.declared.Stage.TheVariants.{Paired}
 use Rattle.model.specs.declared.Row.{Row}
-use Rattle.memory.specs.Heads.{stage_in, go_ahead_in, transfers_in, shipment_in}
 use Rattle.memory.specs.Read.{shipment_at, Sits}
 use Rattle.memory.specs.Inner.Stored.{with_stage_at, with_go_ahead_at}
 use Rattle.acts.specs.Inner.Place.{ActAt}
-use Rattle.memory.proofs.HeadFields.{waiting_is, go_ahead_is, accepted_is, accepted_low}
 use Rattle.acts.proofs.ShipmentChanged.{left_at, refused_at}
 use Rattle.acts.proofs.HeadActs.{stage_changed, go_ahead_changed}
 use Rattle.acts.proofs.Needs.{rows_waiting, covered_is, neither, need_is, faulty_is}
@@ -29,14 +27,14 @@ first_chosen t a b h = rw h
 second_chosen : (t : Bool) (a b : Outcome) → t ≡ false → cond t a b ≡ b
 second_chosen t a b h = rw h
 
-module _ (m : List ℕ) (i k : ℕ) (sits : Sits m i k) (head : List ℕ) (rows : List Row) (is : shipment_in head rows ≡ shipment_at m i k) where
+module _ (m : List ℕ) (i k : ℕ) (sits : Sits m i k) (t : Shipment) (is : t ≡ shipment_at m i k) where
   abbrev s : Shipment
   s = shipment_at m i k
 
   -- "Waiting? 15"
-  module _ {waiting : Bool} (is-waiting : waiting ≡ is_waiting (stage_in head)) where
+  module _ {waiting : Bool} (is-waiting : waiting ≡ is_waiting t.stage) where
     waiting_test : is_waiting s.stage ≡ waiting
-    waiting_test = sym (is-waiting ∙ waiting_is head rows is)
+    waiting_test = sym (is-waiting ∙ ap (λ (s : Shipment). is_waiting s.stage) is)
 
     pub no_go_ahead_at : waiting ≡ false → ActAt m i k gone_ahead (Refused 15) m
     unfolding gone_ahead
@@ -48,17 +46,17 @@ module _ (m : List ℕ) (i k : ℕ) (sits : Sits m i k) (head : List ℕ) (rows 
 
     module _ (held : waiting ≡ true) where
       -- "Any faulty order? 16. None came before? 17."
-      module _ {faulty : Bool} (is_faulty : faulty ≡ any_faulty rows) where
+      module _ (rows : List Row) (rows_are : rows ≡ t.rows) {faulty : Bool} (is_faulty : faulty ≡ any_faulty rows) where
         faulty_test : faulty ≡ any_faulty s.rows
-        faulty_test = is_faulty ∙ faulty_is m i k sits head rows is
+        faulty_test = is_faulty ∙ faulty_is m i k sits t is rows rows_are
 
         pub no_faults_at : faulty ≡ false → ActAt m i k gone_ahead (Refused 16) m
         unfolding gone_ahead
         no_faults_at none = refused_at (asked_yes 15 _ _ _ (waiting_test ∙ held) ∙ asked_no 16 _ _ _ (sym faulty_test ∙ none))
 
-        module _ (faults : faulty ≡ true) {came : Bool} (is_came : came ≡ go_ahead_in head) where
+        module _ (faults : faulty ≡ true) {came : Bool} (is_came : came ≡ t.go_ahead) where
           came_test : came ≡ s.go_ahead
-          came_test = is_came ∙ go_ahead_is head rows is
+          came_test = is_came ∙ ap (λ (s : Shipment). s.go_ahead) is
 
           pub second_at : came ≡ true → ActAt m i k gone_ahead (Refused 17) m
           unfolding gone_ahead
@@ -79,30 +77,30 @@ module _ (m : List ℕ) (i k : ℕ) (sits : Sits m i k) (head : List ℕ) (rows 
               ∙ asked_none _ _))
 
       -- "No faults, or go-ahead given? 18. Paired when both needs are covered; Short changes nothing."
-      module _ {may : Bool} (is_may : may ≡ (go_ahead_in head || not (any_faulty rows))) where
+      module _ {may : Bool} (is_may : may ≡ (t.go_ahead || not (any_faulty t.rows))) where
         may_test : (not (any_faulty s.rows) || s.go_ahead) ≡ may
         may_test =
             or_comm (not (any_faulty s.rows)) s.go_ahead
-            ∙ sym (is_may ∙ (λ t. go_ahead_is head rows is t || not (faulty_is m i k sits head rows is t)))
+            ∙ sym (is_may ∙ ap (λ (s : Shipment). s.go_ahead || not (any_faulty s.rows)) is)
 
         pub faults_at : may ≡ false → ActAt m i k paired (Refused 18) m
         unfolding paired
         faults_at barred = refused_at (asked_yes 15 _ _ _ (waiting_test ∙ held) ∙ asked_no 18 _ _ _ (may_test ∙ barred))
 
-        module _ (free : may ≡ true) {missing_k amounts k_in : Amount} {missing_o fees o_in : Fee}
+        module _ (free : may ≡ true) (rows : List Row) (rows_are : rows ≡ t.rows) {missing_k amounts k_in : Amount} {missing_o fees o_in : Fee}
             (is_missing_k : missing_k ≡ amount (amounts.0 - k_in.0)) (is_missing_o : missing_o ≡ fee (fees.0 - o_in.0))
             (are_amounts : amounts ≡ amount (sum_over (worth K) rows)) (are_fees : fees ≡ fee (sum_over (worth O) rows))
-            (is_k_in : k_in ≡ amount (transfers_in K head)) (is_o_in : o_in ≡ fee (transfers_in O head))
+            (is_k_in : k_in ≡ amount (accepted K t)) (is_o_in : o_in ≡ fee (accepted O t))
             {short : Bool} (is_short : short ≡ (ltb 0 missing_k.0 || ltb 0 missing_o.0)) where
           amount_is : missing_k.0 ≡ need K s - accepted K s
           amount_is =
               ap (λ (a : Amount). a.0) is_missing_k
-              ∙ (λ t. (ap (λ (a : Amount). a.0) are_amounts ∙ need_is m i k sits head rows is K) t - (ap (λ (a : Amount). a.0) is_k_in ∙ accepted_is head rows is K) t)
+              ∙ (λ u. (ap (λ (a : Amount). a.0) are_amounts ∙ need_is m i k sits t is rows rows_are K) u - (ap (λ (a : Amount). a.0) is_k_in ∙ ap (accepted K) is) u)
 
           fee_is : missing_o.0 ≡ need O s - accepted O s
           fee_is =
               ap (λ (a : Fee). a.0) is_missing_o
-              ∙ (λ t. (ap (λ (a : Fee). a.0) are_fees ∙ need_is m i k sits head rows is O) t - (ap (λ (a : Fee). a.0) is_o_in ∙ accepted_is head rows is O) t)
+              ∙ (λ u. (ap (λ (a : Fee). a.0) are_fees ∙ need_is m i k sits t is rows rows_are O) u - (ap (λ (a : Fee). a.0) is_o_in ∙ ap (accepted O) is) u)
 
           covered_test : (leb (need K s) (accepted K s) && leb (need O s) (accepted O s)) ≡ not short
           covered_test =
@@ -132,4 +130,4 @@ module _ (m : List ℕ) (i k : ℕ) (sits : Sits m i k) (head : List ℕ) (rows 
 
 pub ruleset goes_ahead = (rows_waiting, no_go_ahead_at, no_faults_at, second_at, gone_ahead_at)
 
-pub ruleset pairs = (rows_waiting, accepted_low, no_pairing_at, faults_at, short_at, paired_at)
+pub ruleset pairs = (rows_waiting, no_pairing_at, faults_at, short_at, paired_at)

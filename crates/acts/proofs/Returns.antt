@@ -26,7 +26,7 @@ use Rattle.model.proofs.Shipments.{only_if_true}
 use Rattle.model.proofs.SoundParts.{halves, in_order}
 use Rattle.memory.specs.Layout.{row_bytes}
 use Rattle.memory.specs.Rows.{row_of}
-use Rattle.memory.specs.Heads.{terms_in, stage_in, shipment_in}
+use Rattle.memory.specs.Heads.{shipment_in}
 use Rattle.memory.specs.Read.{rows_from, orders_at, shipment_at, Sits}
 use Rattle.acts.specs.Inner.Place.{ActAt}
 use Rattle.acts.specs.Inner.Waits.{worth_waiting, fees_wait_in_vain, waits_in_vain, RowCleared, RowsReturned, Cleared}
@@ -34,7 +34,6 @@ use Rattle.acts.specs.declared.answer.Returned.{Returned as Waited}
 use Rattle.acts.specs.declared.route.Taken.{Taken}
 use Rattle.acts.proofs.RowsInTurn.{none_stored, one_more_stored}
 use Rattle.acts.proofs.RowLaws.{rows_mapped}
-use Rattle.memory.proofs.HeadFields.{paired_is}
 use Rattle.acts.proofs.ShipmentChanged.{refused_at, rows_changed}
 
 -- a wait is at most 2, and counts as often as it adds to the byte of state
@@ -218,34 +217,31 @@ module _ (route : Route) (s : Shipment) where
       by false n some none = refl
 
 -- whether what waits in O is asked beforehand
-module _ (head : List ℕ) (rows : List Row) (route : Route) where
-  abbrev t : Shipment
-  t = shipment_in head rows
-
-  module _ {terms : Terms} (terms_is : terms ≡ terms_in head) where
+module _ (t : Shipment) (route : Route) where
+  module _ {terms : Terms} (terms_is : terms ≡ t.agreed.terms) where
     pub none_in_vain : (terms.flat.0 ≡ 0 → ⊥) → eqb terms.flat.0 0 ≡ fees_wait_in_vain route t
-    unfolding shipment_in
     none_in_vain above =
         let not_zero = ne_eqb terms.flat.0 0 above in
         not_zero ∙ ap (λ t'. t' && eqb (waiting route O t) 0) (sym not_zero ∙ ap (λ (terms : Terms). eqb terms.flat.0 0) terms_is)
 
-    pub sum_in_vain : {sum : ℕ} → terms.flat.0 ≡ 0 → sum ≡ worth_waiting route O rows * 2 → eqb sum 0 ≡ fees_wait_in_vain route t
-    unfolding waiting shipment_in
-    sum_in_vain {sum} none sum_is =
-        let waits = worth_waiting route O rows in
+    pub sum_in_vain : (rows : List Row) → rows ≡ t.rows → {sum : ℕ} → terms.flat.0 ≡ 0 → sum ≡ worth_waiting route O rows * 2 → eqb sum 0 ≡ fees_wait_in_vain route t
+    unfolding waiting
+    sum_in_vain rows same {sum} none sum_are =
+        let waits = worth_waiting route O t.rows in
+        let sum_is : sum ≡ waits * 2 = sum_are ∙ ap (λ rows. worth_waiting route O rows * 2) same in
         both_ways (eqb sum 0) (eqb waits 0)
         (λ yes_sum. eq-eqb waits 0 (omega (arith, eqb-true sum 0 yes_sum)))
         (λ yes_waits. eq-eqb sum 0 (omega (arith, eqb-true waits 0 yes_waits)))
         ∙ ap (λ t'. t' && eqb waits 0) (sym (eq-eqb terms.flat.0 0 none) ∙ ap (λ (terms : Terms). eqb terms.flat.0 0) terms_is)
 
-module _ (m : List ℕ) (i k : ℕ) (head : List ℕ) (rows : List Row) (is : shipment_in head rows ≡ shipment_at m i k) where
+module _ (m : List ℕ) (i k : ℕ) (t : Shipment) (is : t ≡ shipment_at m i k) where
   abbrev s : Shipment
   s = shipment_at m i k
 
   -- "Paired? 19"
-  module _ (route : Route) (money : Money) {paired : Bool} (is-paired : paired ≡ is_paired (stage_in head)) where
+  module _ (route : Route) (money : Money) {paired : Bool} (is-paired : paired ≡ is_paired t.stage) where
     paired_test : is_paired s.stage ≡ paired
-    paired_test = sym (is-paired ∙ paired_is head rows is)
+    paired_test = sym (is-paired ∙ ap (λ (s : Shipment). is_paired s.stage) is)
 
     pub unpaired_at : paired ≡ false → ActAt m i k (returned_by route money) (Refused 19) m
     unfolding returned_by
@@ -273,7 +269,7 @@ module _ (m : List ℕ) (i k : ℕ) (head : List ℕ) (rows : List Row) (is : sh
             let all_needed = only_if_true (is_paired s.stage) (need money s) (paired_test ∙ held) in
             omega (arith, waits_below route money s, all_needed, moneys.covered, moneys.accepted_fits)
 
-        module _ {vain : Bool} (is-vain : vain ≡ waits_in_vain route money (shipment_in head rows)) where
+        module _ {vain : Bool} (is-vain : vain ≡ waits_in_vain route money t) where
           is_vain : vain ≡ waits_in_vain route money s
           is_vain = is-vain ∙ ap (waits_in_vain route money) is
 

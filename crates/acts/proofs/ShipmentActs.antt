@@ -12,21 +12,18 @@ use Rattle.epe.proofs.QuestionLaws.{asked_no, asked_yes, asked_none}
 use Rattle.model.specs.Shipment.{Shipment, accepted, is_waiting}
 use Rattle.model.specs.Calls.{Refused, Done, transferred, closed}
 use Rattle.model.specs.declared.Stage.TheVariants.{Closed}
-use Rattle.model.specs.declared.Row.{Row}
-use Rattle.memory.specs.Heads.{stage_in, shipment_in}
 use Rattle.memory.specs.Read.{shipment_at, Sits}
 use Rattle.memory.specs.Inner.Stored.{with_stage_at, with_transfers_at}
 use Rattle.acts.specs.Inner.Place.{ActAt}
-use Rattle.memory.proofs.HeadFields.{waiting_is}
 use Rattle.acts.proofs.ShipmentChanged.{refused_at}
 use Rattle.acts.proofs.HeadActs.{stage_changed, accepted_changed}
 
-module _ (m : List ℕ) (i k : ℕ) (sits : Sits m i k) (head : List ℕ) (rows : List Row) (is : shipment_in head rows ≡ shipment_at m i k) where
+module _ (m : List ℕ) (i k : ℕ) (sits : Sits m i k) (t : Shipment) (is : t ≡ shipment_at m i k) where
   abbrev s : Shipment
   s = shipment_at m i k
 
   -- "Total accepted for that money still at most 9,999,999,999,999? 14"
-  module _ (money : Money) (amount : ℕ) {before : ℕ} (is_before : before ≡ accepted money (shipment_in head rows)) where
+  module _ (money : Money) (amount : ℕ) {before : ℕ} (is_before : before ≡ accepted money t) where
     before_is : before ≡ accepted money s
     before_is = is_before ∙ ap (accepted money) is
 
@@ -45,9 +42,9 @@ module _ (m : List ℕ) (i k : ℕ) (sits : Sits m i k) (head : List ℕ) (rows 
         rw before_is (accepted_changed sits refl money amount (omega (arith, before_is)) (asked_yes 14 _ _ _ (total_is ∙ within) ∙ asked_none _ _))
 
   -- "Waiting? 15"
-  module _ {waiting : Bool} (is-waiting : waiting ≡ is_waiting (stage_in head)) where
+  module _ {waiting : Bool} (is-waiting : waiting ≡ is_waiting t.stage) where
     waiting_test : is_waiting s.stage ≡ waiting
-    waiting_test = sym (is-waiting ∙ waiting_is head rows is)
+    waiting_test = sym (is-waiting ∙ ap (λ (s : Shipment). is_waiting s.stage) is)
 
     pub not_closed_at : waiting ≡ false → ActAt m i k closed (Refused 15) m
     unfolding closed

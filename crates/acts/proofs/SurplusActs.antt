@@ -19,35 +19,28 @@ use Rattle.model.specs.Calls.{Refused, Returned, surplus_returned}
 use Rattle.model.proofs.SoundParts.{in_order}
 use Rattle.model.specs.Sound.{shipment_sound}
 use Rattle.model.specs.declared.Row.{Row}
-use Rattle.memory.specs.Heads.{stage_in, shipment_in}
 use Rattle.memory.specs.Read.{shipment_at, Sits}
 use Rattle.memory.specs.Inner.Stored.{with_surplus_at}
 use Rattle.acts.specs.Inner.Place.{ActAt}
-use Rattle.memory.proofs.HeadFields.{waiting_is}
 use Rattle.acts.proofs.ShipmentChanged.{refused_at}
 use Rattle.acts.proofs.HeadActs.{returned_changed}
 
 -- "less the need once Paired"
-module _ (head : List ℕ) (rows : List Row) where
-  abbrev t : Shipment
-  t = shipment_in head rows
-
-  module _ {paired : Bool} (is-paired : paired ≡ is_paired (stage_in head)) where
+module _ (t : Shipment) where
+  module _ {paired : Bool} (is-paired : paired ≡ is_paired t.stage) where
     pub none_needed : (money : Money) → paired ≡ false → sum_of money 0 ≡ sum_of money (need_once_paired money t)
-    unfolding shipment_in
     none_needed money other = ap (λ held. sum_of money (only_if held (need money t))) (sym other ∙ is-paired)
 
     needed : (money : Money) → paired ≡ true → need money t ≡ need_once_paired money t
-    unfolding shipment_in
     needed money held = ap (λ held. only_if held (need money t)) (sym held ∙ is-paired)
 
-    pub needed_amounts : {amounts : Amount} → paired ≡ true → amounts ≡ amount (sum_over (worth K) rows) → Amounts amounts ≡ sum_of K (need_once_paired K t)
-    unfolding sum_of need shipment_in
-    needed_amounts held are = ap Amounts (are ∙ ap amount (needed K held))
+    pub needed_amounts : (rows : List Row) → rows ≡ t.rows → {amounts : Amount} → paired ≡ true → amounts ≡ amount (sum_over (worth K) rows) → Amounts amounts ≡ sum_of K (need_once_paired K t)
+    unfolding sum_of need
+    needed_amounts rows same held are = ap Amounts (are ∙ ap amount (ap (sum_over (worth K)) same ∙ needed K held))
 
-    pub needed_fees : {fees : Fee} → paired ≡ true → fees ≡ fee (sum_over (worth O) rows) → Fees fees ≡ sum_of O (need_once_paired O t)
-    unfolding sum_of need shipment_in
-    needed_fees held are = ap Fees (are ∙ ap fee (needed O held))
+    pub needed_fees : (rows : List Row) → rows ≡ t.rows → {fees : Fee} → paired ≡ true → fees ≡ fee (sum_over (worth O) rows) → Fees fees ≡ sum_of O (need_once_paired O t)
+    unfolding sum_of need
+    needed_fees rows same held are = ap Fees (are ∙ ap fee (ap (sum_over (worth O)) same ∙ needed O held))
 
   -- of a sound shipment what was accepted covers both
   module _ (sound : shipment_sound t ≡ true) (money : Money) where
@@ -57,20 +50,20 @@ module _ (head : List ℕ) (rows : List Row) where
     pub gone_within : returned money t ≤ accepted money t - need_once_paired money t
     gone_within = omega (arith, ((in_order t sound).moneys money).covered)
 
-module _ (m : List ℕ) (i k : ℕ) (sits : Sits m i k) (head : List ℕ) (rows : List Row) (is : shipment_in head rows ≡ shipment_at m i k) where
+module _ (m : List ℕ) (i k : ℕ) (sits : Sits m i k) (t : Shipment) (is : t ≡ shipment_at m i k) where
   abbrev s : Shipment
   s = shipment_at m i k
 
   -- "For ZWR: not Waiting? 24. Anything above zero to return? 23."
-  module _ (money : Money) {waiting : Bool} (is-waiting : waiting ≡ is_waiting (stage_in head)) where
+  module _ (money : Money) {waiting : Bool} (is-waiting : waiting ≡ is_waiting t.stage) where
     waiting_test : is_waiting s.stage ≡ waiting
-    waiting_test = sym (is-waiting ∙ waiting_is head rows is)
+    waiting_test = sym (is-waiting ∙ ap (λ (s : Shipment). is_waiting s.stage) is)
 
     pub still_waiting_at : waiting ≡ true → ActAt m i k (surplus_returned money) (Refused 24) m
     unfolding surplus_returned
     still_waiting_at held = refused_at (asked_no 24 _ _ _ (ap not (waiting_test ∙ held)))
 
-    module _ (other : waiting ≡ false) {surplus : ℕ} (is_free : surplus ≡ free money (shipment_in head rows)) where
+    module _ (other : waiting ≡ false) {surplus : ℕ} (is_free : surplus ≡ free money t) where
       is_surplus : surplus ≡ free money s
       is_surplus = is_free ∙ ap (free money) is
 
@@ -79,7 +72,7 @@ module _ (m : List ℕ) (i k : ℕ) (sits : Sits m i k) (head : List ℕ) (rows 
       no_surplus_at nothing =
           refused_at (asked_yes 24 _ _ _ (ap not (waiting_test ∙ other)) ∙ asked_no 23 _ _ _ (ap (ltb 0) (sym is_surplus ∙ nothing)))
 
-      module _ {gone : ℕ} (is_gone : gone ≡ returned money (shipment_in head rows)) where
+      module _ {gone : ℕ} (is_gone : gone ≡ returned money t) where
         before_is : gone ≡ returned money s
         before_is = is_gone ∙ ap (returned money) is
 

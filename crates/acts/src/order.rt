@@ -31,14 +31,14 @@ pub fn handle_at(
     ensures { ActAt memory.old place.head place.row (on_order deed number) (handling_of deed result) memory.new }
 {
     let shipment = LentShipment::at(memory, place);
-    if !shipment.head.is_paired() {
+    if !shipment.is_paired() {
         return Err(Refusal::NotPaired);
     }
-    if !(1..=shipment.rows.len() as u64).contains(&number) {
+    if !(1..=shipment.rows().len() as u64).contains(&number) {
         return Err(Refusal::NoSuchOrder);
     }
     let past = (number - 1) as usize;
-    let order = shipment.rows.row(past);
+    let order = shipment.rows().row(past);
     if !does_fit(deed, order.state()) {
         return Err(Refusal::State);
     }

@@ -6,7 +6,6 @@ ghost use Rattle.model.specs.Shipment.{most_rows};
 ghost use Rattle.model.specs.Calls.{Return, waiting, is_zpr_with_o, returned_by, acted};
 ghost use Rattle.model.specs.declared.Route.{Route};
 ghost use Rattle.memory.specs.Layout.{IsMemory};
-ghost use Rattle.memory.specs.Lent.{shipment_of};
 ghost use Rattle.memory.specs.Read.{shipment_at, Sits};
 ghost use Rattle.memory.specs.Inner.Returns.{WaitTable, IsWaitTable};
 ghost use Rattle.acts.specs.Answers.{returning_of};
@@ -62,7 +61,7 @@ fn return_at(
     ensures of_money { IfOk result (λ returned. money_of_sum returned.sum ≡ money) }
 {
     let shipment = LentShipment::at(memory, place);
-    if !shipment.head.is_paired() {
+    if !shipment.is_paired() {
         return Err(Refusal::NotPaired);
     }
     if is_zpr_with_o(route, money) {
@@ -87,7 +86,7 @@ fn is_zpr_with_o(route: Route, money: Money) -> bool
 
 // Is what waits of a money on a route 0, though orders may wait? Never in K, since no amount is 0.
 fn waits_in_vain(shipment: &LentShipment, route: Route, money: Money) -> bool
-    ensures { result ≡ waits_in_vain route money (shipment_of shipment.now) }
+    ensures { result ≡ waits_in_vain route money shipment.now }
 {
     money == Money::O && fees_wait_in_vain(shipment, route)
 }
@@ -95,9 +94,9 @@ fn waits_in_vain(shipment: &LentShipment, route: Route, money: Money) -> bool
 // Is it so in O? No fee is below the flat part, so that what waits is added up beforehand only where that is 0.
 #[tactic(auto, using(crate::proofs::Returns::none_in_vain, crate::proofs::Returns::sum_in_vain))]
 fn fees_wait_in_vain(shipment: &LentShipment, route: Route) -> bool
-    ensures { result ≡ fees_wait_in_vain route (shipment_of shipment.now) }
+    ensures { result ≡ fees_wait_in_vain route shipment.now }
 {
-    shipment.head.terms().flat.0 == 0 && fees_waiting(&shipment.rows, route) == 0
+    shipment.terms().flat.0 == 0 && fees_waiting(shipment.rows(), route) == 0
 }
 
 // The fees that wait on a route in some rows, each as often as its wait adds to the byte of state.
@@ -119,7 +118,7 @@ fn clear(memory: &mut [u8], place: Place, route: Route, money: Money) -> Returne
     requires { Sits memory.old place.head place.row × WithinSum (waiting route money (shipment_at memory.old place.head place.row)) }
     ensures { Cleared route money place.head place.row memory.old memory.new result }
 {
-    let n = LentShipment::at(memory, place).rows.len();
+    let n = LentShipment::at(memory, place).rows().len();
     let table = wait_table(route, money);
     let mut taken = Taken { worth: 0, count: 0 };
     // Kept: 3c: rows are changed on the way, and lie in columns, so there is no slice of rows to walk.

@@ -3,7 +3,6 @@ ghost use Rattle.std.specs.Prelude.{◌≡◌, not, ◌||◌, ltb};
 ghost use Rattle.money.specs.Money.{WithinSum, grosze_in, money_of_sum};
 ghost use Rattle.model.specs.Shipment.{any_faulty};
 ghost use Rattle.model.specs.Calls.{transferred, gone_ahead, paired, closed};
-ghost use Rattle.memory.specs.Heads.{go_ahead_in};
 ghost use Rattle.memory.specs.Read.{Sits};
 ghost use Rattle.acts.specs.Answers.{completion_of, pairing_of};
 ghost use Rattle.acts.specs.Inner.Place.{ActAt};
@@ -40,13 +39,13 @@ pub fn go_ahead_at(memory: &mut [u8], place: Place) -> Result<(), Refusal>
     ensures { ActAt memory.old place.head place.row gone_ahead (completion_of result) memory.new }
 {
     let shipment = LentShipment::at(memory, place);
-    if !shipment.head.is_waiting() {
+    if !shipment.is_waiting() {
         return Err(Refusal::NotWaiting);
     }
-    if !has_faulty_in(&shipment.rows) {
+    if !has_faulty_in(shipment.rows()) {
         return Err(Refusal::NoFaults);
     }
-    if shipment.head.has_go_ahead() {
+    if shipment.has_go_ahead() {
         return Err(Refusal::SecondGoAhead);
     }
     store_go_ahead(memory, place.head);
@@ -60,17 +59,15 @@ pub fn pair_at(memory: &mut [u8], place: Place) -> Pairing
     ensures { ActAt memory.old place.head place.row paired (pairing_of result) memory.new }
 {
     let shipment = LentShipment::at(memory, place);
-    if !shipment.head.is_waiting() {
+    if !shipment.is_waiting() {
         return Pairing::from(Refusal::NotWaiting);
     }
     if !may_pair(&shipment) {
         return Pairing::from(Refusal::Faults);
     }
-    let amount = shipment
-        .rows
-        .amounts()
-        .less(shipment.head.amounts_accepted());
-    let fee = shipment.rows.fees().less(shipment.head.fees_accepted());
+    let rows = shipment.rows();
+    let amount = rows.amounts().less(shipment.amounts_accepted());
+    let fee = rows.fees().less(shipment.fees_accepted());
     if is_short(amount, fee) {
         return Pairing::Short(amount, fee);
     }
@@ -84,7 +81,7 @@ pub fn close_at(memory: &mut [u8], place: Place) -> Result<(), Refusal>
     requires { Sits memory.old place.head place.row }
     ensures { ActAt memory.old place.head place.row closed (completion_of result) memory.new }
 {
-    if !LentShipment::at(memory, place).head.is_waiting() {
+    if !LentShipment::at(memory, place).is_waiting() {
         return Err(Refusal::NotWaiting);
     }
     store_stage(memory, place.head, Stage::Closed);
@@ -95,9 +92,9 @@ pub fn close_at(memory: &mut [u8], place: Place) -> Result<(), Refusal>
 #[tactic(auto, using(text::proofs::Branches::branches))]
 fn may_pair(shipment: &LentShipment) -> bool
     requires { SoundInWaiting shipment.now.rows }
-    ensures { result ≡ (go_ahead_in shipment.now.head || not (any_faulty shipment.now.rows)) }
+    ensures { result ≡ (shipment.now.go_ahead || not (any_faulty shipment.now.rows)) }
 {
-    shipment.head.has_go_ahead() || !has_faulty_in(&shipment.rows)
+    shipment.has_go_ahead() || !has_faulty_in(shipment.rows())
 }
 
 // Is anything missing?

@@ -3,7 +3,6 @@ ghost use Rattle.std.specs.Prelude.{◌≡◌, IfOk};
 ghost use Rattle.money.specs.Money.{sum_of, money_of_sum};
 ghost use Rattle.model.specs.Shipment.{need_once_paired, free};
 ghost use Rattle.model.specs.Calls.{surplus_returned};
-ghost use Rattle.memory.specs.Lent.{shipment_of};
 ghost use Rattle.memory.specs.Read.{Sits};
 ghost use Rattle.acts.specs.Answers.{returning_of};
 ghost use Rattle.acts.specs.Inner.Place.{ActAt};
@@ -22,7 +21,7 @@ pub fn surplus_at(memory: &mut [u8], place: Place, money: Money) -> Result<Retur
     ensures of_money { IfOk result (λ returned. money_of_sum returned.sum ≡ money) }
 {
     let shipment = LentShipment::at(memory, place);
-    if shipment.head.is_waiting() {
+    if shipment.is_waiting() {
         return Err(Refusal::StillWaiting);
     }
     let before = shipment.returned(money);
@@ -37,7 +36,7 @@ pub fn surplus_at(memory: &mut [u8], place: Place, money: Money) -> Result<Retur
 
 // The free money of a shipment.
 fn free_in(shipment: &LentShipment, money: Money) -> Sum
-    ensures { result ≡ sum_of money (free money (shipment_of shipment.now)) }
+    ensures { result ≡ sum_of money (free money shipment.now) }
 {
     let accepted = shipment.accepted(money);
     let need = need_in(shipment, money);
@@ -48,14 +47,14 @@ fn free_in(shipment: &LentShipment, money: Money) -> Sum
 // What a shipment needs of a money, once Paired.
 #[tactic(auto, using(crate::proofs::SurplusActs::none_needed, crate::proofs::SurplusActs::needed_amounts, crate::proofs::SurplusActs::needed_fees))]
 fn need_in(shipment: &LentShipment, money: Money) -> Sum
-    ensures { result ≡ sum_of money (need_once_paired money (shipment_of shipment.now)) }
+    ensures { result ≡ sum_of money (need_once_paired money shipment.now) }
 {
-    if !shipment.head.is_paired() {
+    if !shipment.is_paired() {
         return Sum::of(money, 0);
     }
     // Kept: 7a: amounts and fees are two columns of two types, and here one is chosen by the money.
     match money {
-        Money::K => Sum::Amounts(shipment.rows.amounts()),
-        Money::O => Sum::Fees(shipment.rows.fees()),
+        Money::K => Sum::Amounts(shipment.rows().amounts()),
+        Money::O => Sum::Fees(shipment.rows().fees()),
     }
 }

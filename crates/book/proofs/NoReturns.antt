@@ -1,14 +1,12 @@
 -- The refusal of a return that there is not is decided where the shipment is found.
 -- Assumes nothing.
-use mathlib.Core.Path.{◌≡◌, sym, ◌∙◌}
+use mathlib.Core.Path.{◌≡◌, sym, ap, ◌∙◌}
 use mathlib.Core.Bool.{Bool, true, false}
 use mathlib.Core.List.{List}
 use Rattle.std.specs.Prelude.{Ok, Err}
 use Prim.Native.Nat.{ℕ}
 use Rattle.epe.specs.declared.ident.Ident.{Ident}
-use Rattle.model.specs.Shipment.{is_paired}
-use Rattle.model.specs.declared.Row.{Row}
-use Rattle.memory.specs.Heads.{stage_in, shipment_in}
+use Rattle.model.specs.Shipment.{Shipment, is_paired}
 use Rattle.memory.specs.declared.place.Place.{Place}
 use Rattle.memory.specs.Read.{shipment_at, read_book}
 use Rattle.acts.specs.Refusal.{number_of}
@@ -17,7 +15,6 @@ use Rattle.acts.specs.Inner.Place.{called_in, place_in}
 use Rattle.acts.proofs.PlaceInBook.{no_place}
 use Rattle.acts.proofs.FoundInBook.{none_found, found_at}
 use Rattle.book.specs.NoReturn.{no_return}
-use Rattle.memory.proofs.HeadFields.{paired_is}
 
 module _ (ident : Ident) (m : List ℕ) where
   pub refused_unplaced : {refusal : Refusal} → Err refusal ≡ place_in (called_in ident) m → number_of refusal ≡ no_return ident (read_book m)
@@ -25,11 +22,10 @@ module _ (ident : Ident) (m : List ℕ) where
   refused_unplaced e =
       no_place (called_in ident) m e (λ same unsound. rw (same, unsound)) (λ same held none. rw (same, held, none_found ident m none))
 
-  module _ {place : Place} (placed : Ok place ≡ place_in (called_in ident) m) (head : List ℕ) (rows : List Row)
-      (is : shipment_in head rows ≡ shipment_at m place.head place.row)
-      {paired : Bool} (is-paired : paired ≡ is_paired (stage_in head)) where
+  module _ {place : Place} (placed : Ok place ≡ place_in (called_in ident) m) (t : Shipment) (is : t ≡ shipment_at m place.head place.row)
+      {paired : Bool} (is-paired : paired ≡ is_paired t.stage) where
     stage_is : is_paired (shipment_at m place.head place.row).stage ≡ paired
-    stage_is = sym (is-paired ∙ paired_is head rows is)
+    stage_is = sym (is-paired ∙ ap (λ (s : Shipment). is_paired s.stage) is)
 
     pub refused_paired : paired ≡ true → 22 ≡ no_return ident (read_book m)
     unfolding read_book

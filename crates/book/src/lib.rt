@@ -166,7 +166,7 @@ pub fn refuse_return(memory: &[u8], ident: Ident) -> Refusal
 {
     match place_called(memory, ident) {
         Ok(place) => {
-            if LentShipment::at(memory, place).head.is_paired() {
+            if LentShipment::at(memory, place).is_paired() {
                 Refusal::UndeliveredFee
             } else {
                 Refusal::NotPaired

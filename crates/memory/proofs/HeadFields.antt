@@ -9,13 +9,13 @@ use lib.ListN.{length}
 use Rattle.money.specs.Money.{WithinSum}
 use Rattle.money.specs.declared.Money.{Money}
 use Rattle.money.specs.declared.Money.TheVariants.{K, O}
-use Rattle.model.specs.Shipment.{Shipment, accepted, returned, is_waiting, is_paired}
+use Rattle.model.specs.Shipment.{Shipment, accepted, returned}
 use Rattle.model.specs.Sound.{shipment_sound}
 use Rattle.model.specs.declared.Row.{Row}
 use Rattle.model.proofs.SoundParts.{in_order}
 use Rattle.memory.specs.Read.{orders_at, shipment_at}
 use Rattle.memory.proofs.Columns.{rows_many}
-use Rattle.memory.specs.Heads.{name_in, terms_in, stage_in, go_ahead_in, transfers_in, surplus_in, shipment_in}
+use Rattle.memory.specs.Heads.{transfers_in, surplus_in, shipment_in}
 
 -- in any head, with any rows
 module _ (head : List ℕ) (rows : List Row) where
@@ -37,40 +37,8 @@ module _ (head : List ℕ) (rows : List Row) where
     pub returned_low : WithinSum (surplus_in money head)
     returned_low = omega (arith, returned_there money, ((in_order (shipment_in head rows) sound).moneys money).returned_fits)
 
--- and so where that is a shipment known otherwise
-module _ (head : List ℕ) (rows : List Row) {s : Shipment} (is : shipment_in head rows ≡ s) where
-  pub rows_are : rows ≡ s.rows
-  unfolding shipment_in
-  rows_are = ap (λ (s : Shipment). s.rows) is
-
-  pub ident_is : (name_in head).ident ≡ s.agreed.name.ident
-  unfolding shipment_in
-  ident_is = ap (λ (s : Shipment). s.agreed.name.ident) is
-
-  pub terms_are : terms_in head ≡ s.agreed.terms
-  unfolding shipment_in
-  terms_are = ap (λ (s : Shipment). s.agreed.terms) is
-
-  pub waiting_is : is_waiting (stage_in head) ≡ is_waiting s.stage
-  unfolding shipment_in
-  waiting_is = ap (λ (s : Shipment). is_waiting s.stage) is
-
-  pub paired_is : is_paired (stage_in head) ≡ is_paired s.stage
-  unfolding shipment_in
-  paired_is = ap (λ (s : Shipment). is_paired s.stage) is
-
-  pub go_ahead_is : go_ahead_in head ≡ s.go_ahead
-  unfolding shipment_in
-  go_ahead_is = ap (λ (s : Shipment). s.go_ahead) is
-
-  pub accepted_is : (money : Money) → transfers_in money head ≡ accepted money s
-  accepted_is money = accepted_there head rows money ∙ ap (accepted money) is
-
-  pub returned_is : (money : Money) → surplus_in money head ≡ returned money s
-  returned_is money = returned_there head rows money ∙ ap (returned money) is
-
 -- and of one at a place, how many orders it has
-module _ (m : List ℕ) (i k : ℕ) (head : List ℕ) (rows : List Row) (is : shipment_in head rows ≡ shipment_at m i k) where
+module _ (m : List ℕ) (i k : ℕ) (s : Shipment) (is : s ≡ shipment_at m i k) (rows : List Row) (rows_are : rows ≡ s.rows) where
   pub orders_are : {n : ℕ} → n ≡ length rows → n ≡ orders_at m i
   unfolding shipment_in
-  orders_are many = many ∙ ap length (rows_are head rows is) ∙ rows_many m k (orders_at m i)
+  orders_are many = many ∙ ap length (rows_are ∙ ap (λ (s : Shipment). s.rows) is) ∙ rows_many m k (orders_at m i)

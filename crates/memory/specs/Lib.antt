@@ -5,6 +5,5 @@ pub mod States
 pub mod Rows
 pub mod Heads
 pub mod Read
-pub mod Lent
 -- What a buyer need not read.
 pub mod Inner

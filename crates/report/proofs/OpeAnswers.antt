@@ -17,7 +17,6 @@ use Rattle.model.specs.Shipment.{Shipment}
 use Rattle.model.specs.Sound.{shipment_sound}
 use Rattle.model.specs.declared.Row.{Row}
 use Rattle.model.proofs.SoundParts.{in_order, halves}
-use Rattle.memory.specs.Heads.{name_in, shipment_in}
 use Rattle.memory.specs.Read.{shipment_at, read_book}
 use Rattle.memory.specs.declared.place.Place.{Place}
 use Rattle.acts.specs.Refusal.{number_of}
@@ -28,7 +27,7 @@ use Rattle.acts.proofs.FoundInBook.{none_found, found_at}
 use Rattle.write.specs.Spelled.{places_of}
 use Rattle.write.specs.Written.{Wrote, leaving}
 use Rattle.report.specs.Lines.{is_moment}
-use Rattle.report.specs.Ope.{FaultyOrder, faulty_from, text_of_ident, source_of, ope, are_coded, fits_ope, ope_on, ope_of, ope_written}
+use Rattle.report.specs.Ope.{FaultyOrder, faulty_from, source_of, ope, are_coded, fits_ope, ope_on, ope_of, ope_written}
 use Rattle.report.specs.Inner.Faults.{found_in, records_in, ope_text}
 use Rattle.report.specs.declared.ope.Found.{Found}
 use Rattle.report.proofs.FaultWalk.{no_faults}
@@ -103,15 +102,14 @@ unfolding name_in_form ident_in_form
 source_formed s sound = let formed = (in_order s sound).name_in_form in search halves
 
 -- by what is read of it
-module _ (own : List ℕ) (created : ℕ) (codes output : List ℕ) (head : List ℕ) (rows : List Row) where
-  pub ope_there : {source : List ℕ} → source ≡ text_of_ident (name_in head).ident
-      → ope_on own created codes output source (faulty_from 1 rows) ≡ ope_of own created codes output (some (shipment_in head rows))
-  unfolding ope_of shipment_in
-  ope_there is_source = ap (λ source. ope_on own created codes output source (faulty_from 1 rows)) is_source
+module _ (own : List ℕ) (created : ℕ) (codes output : List ℕ) (s : Shipment) where
+  pub ope_there : (rows : List Row) → rows ≡ s.rows → {source : List ℕ} → source ≡ source_of s
+      → ope_on own created codes output source (faulty_from 1 rows) ≡ ope_of own created codes output (some s)
+  unfolding ope_of
+  ope_there rows same is_source = λ i. ope_on own created codes output (is_source i) (faulty_from 1 (same i))
 
-  pub ope_source : shipment_sound (shipment_in head rows) ≡ true → {source : List ℕ} → source ≡ text_of_ident (name_in head).ident → length source ≤ 17
-  unfolding shipment_in
-  ope_source sound is_source = rw is_source (identifier_fits (source_of (shipment_in head rows)) (source_formed (shipment_in head rows) sound))
+  pub ope_source : shipment_sound s ≡ true → {source : List ℕ} → source ≡ source_of s → length source ≤ 17
+  ope_source sound is_source = rw is_source (identifier_fits (source_of s) (source_formed s sound))
 
 -- and of a book, by where the shipment is found
 module _ (m : List ℕ) (ident : Ident) (own : List ℕ) (created : ℕ) (codes output : List ℕ) where

@@ -5,7 +5,6 @@ ghost use Rattle.text.specs.Bytes.{between};
 ghost use Rattle.epe.specs.Ident.{identifier, ident_of};
 ghost use Rattle.epe.specs.Numbered.{numbered};
 ghost use Rattle.model.specs.Shipment.{most_rows};
-ghost use Rattle.memory.specs.Lent.{shipment_of};
 ghost use Rattle.memory.specs.Read.{read_book};
 ghost use Rattle.write.specs.Spelled.{places_of};
 ghost use Rattle.write.specs.Writer.{HasRoom, Writes};
@@ -80,7 +79,7 @@ pub fn write_ope(
 
 // Writes the report on a shipment.
 // Kept: 2c: what writers share is `written_after` and one test; before that each asks its own questions.
-#[tactic(auto, using(crate::proofs::OpeAnswers::ope_source, crate::proofs::OpeAnswers::ope_there), unfolding(memory::specs::Heads::shipment_in))]
+#[tactic(auto, using(crate::proofs::OpeAnswers::ope_source, crate::proofs::OpeAnswers::ope_there))]
 fn write_on(
     shipment: &LentShipment,
     own: &[u8],
@@ -88,9 +87,9 @@ fn write_on(
     codes: &Codes<'_>,
     output: &mut [u8],
 ) -> Result<u64, Refusal>
-    ensures { record { answer = numbered number_of result; output = output.new } ≡ ope_of own.now created codes.now.table.now output.old (some (shipment_of shipment.now)) }
+    ensures { record { answer = numbered number_of result; output = output.new } ≡ ope_of own.now created codes.now.table.now output.old (some shipment.now) }
 {
-    let ident = shipment.head.ident();
+    let ident = shipment.ident();
     let bytes = ident.bytes;
     let source = first(&bytes, ident.len);
     let header = &Header {
@@ -98,7 +97,7 @@ fn write_on(
         created,
         source,
     };
-    write_of(header, codes, &shipment.rows, output)
+    write_of(header, codes, shipment.rows(), output)
 }
 
 // Writes the report on the orders of some rows.

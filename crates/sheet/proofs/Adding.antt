@@ -11,9 +11,8 @@ use Rattle.money.specs.declared.Amount.{Amount}
 use Rattle.money.specs.declared.Fee.{Fee}
 use Rattle.money.specs.declared.Money.{Money}
 use Rattle.money.specs.declared.Money.TheVariants.{K, O}
-use Rattle.model.specs.Shipment.{most_rows, by_money, is_paired, only_if, sum_over, worth, holds}
+use Rattle.model.specs.Shipment.{Shipment, most_rows, by_money, is_paired, only_if, sum_over, worth, holds}
 use Rattle.model.specs.declared.Row.{Row}
-use Rattle.memory.specs.Heads.{stage_in, shipment_in}
 use Rattle.memory.specs.Inner.Holdings.{holding_of}
 use Rattle.memory.proofs.Columns.{Adding, adding_begun, adding_on, adding_done}
 use Rattle.sheet.specs.declared.row.Parts.{Parts}
@@ -151,14 +150,14 @@ module _ {rows : List Row} where
       }
 
 -- a shipment's parts, by its stage
-module _ (head : List ℕ) (rows : List Row) {paired : Bool} (is-paired : paired ≡ is_paired (stage_in head)) where
-  pub none_unpaired : paired ≡ false → no_parts ≡ parts_once_paired (shipment_in head rows)
-  unfolding parts_once_paired shipment_in
+module _ (s : Shipment) {paired : Bool} (is-paired : paired ≡ is_paired s.stage) where
+  pub none_unpaired : paired ≡ false → no_parts ≡ parts_once_paired s
+  unfolding parts_once_paired
   none_unpaired unpaired = rw (sym is-paired ∙ unpaired)
 
-  pub parts_paired : {parts : Parts} → paired ≡ true → parts ≡ parts_of rows → parts ≡ parts_once_paired (shipment_in head rows)
-  unfolding parts_once_paired shipment_in
-  parts_paired together told = rw (sym is-paired ∙ together) told
+  pub parts_paired : (rows : List Row) → rows ≡ s.rows → {parts : Parts} → paired ≡ true → parts ≡ parts_of rows → parts ≡ parts_once_paired s
+  unfolding parts_once_paired
+  parts_paired rows are together told = rw (sym is-paired ∙ together) (told ∙ ap parts_of are)
 
 -- by which an order is added
 pub ruleset order_sums = (holding_most, part_fits, with_part_fits, with_part_within, order_added)

@@ -2,55 +2,26 @@
 -- Assumes nothing.
 use mathlib.Core.Path.{◌≡◌, refl, sym, ap, ◌∙◌}
 use mathlib.Core.Bool.{true, false}
-use mathlib.Core.List.{List, [], ◌∷◌, ◌++◌, map}
-use Prim.Native.Nat.{ℕ, zero, suc, ◌+◌, ◌-◌, ◌≤◌, ◌<◌}
+use mathlib.Core.List.{List, [], ◌∷◌, ◌++◌, map, append_assoc}
+use Prim.Native.Nat.{ℕ, zero, suc, ◌+◌, ◌≤◌, ◌<◌}
 use native.Mathlib.Numerals.{add-one}
 use native.Mathlib.Omega.{arith}
 use borrow.Author.Tests.{le-leb, lt-leb}
 use lib.Dec.{leb}
-use lib.ListN.{length, drop, set, length-drop}
+use lib.ListN.{length, drop, set, length-drop, length-append, length-set}
 use lib.Seq.{drop-drop}
 use Rattle.std.specs.Prelude.{Option, None, Result, Ok}
 use Rattle.std.specs.Result.{result_ok}
 use Rattle.epe.specs.Questions.{asked}
-use Rattle.model.specs.declared.Row.{Row}
-use Rattle.memory.specs.Heads.{shipment_in}
-use Rattle.memory.specs.Read.{shipment_at, shipments_from, shipments_in, book_in, sound_in, read_book}
-use Rattle.memory.proofs.HeadFields.{orders_are}
-use Rattle.sound.proofs.ReadLaws.{shipments_many}
+use Rattle.model.specs.Shipment.{Shipment}
+use Rattle.model.specs.Book.{Book}
+use Rattle.memory.specs.Read.{book_in, sound_in, read_book}
 use Rattle.sheet.specs.declared.refusal.Refusal.{Refusal}
 use Rattle.sheet.specs.declared.SheetRow.{SheetRow}
 use Rattle.sheet.specs.declared.Totals.{Totals}
-use Rattle.sheet.specs.Sheet.{row_for, plus_all, no_sheet, sheet_of}
-use Rattle.sheet.specs.Inner.Filling.{Stands, if_within, start_of, row_in, filled_to, Fillable}
-use Rattle.sheet.proofs.Standing.{stands_first, sits_here, stands_next}
+use Rattle.sheet.specs.Sheet.{row_for, plus_all, within_cap, no_sheet, sheet_of}
+use Rattle.sheet.specs.Inner.Filling.{if_within}
 use Rattle.sheet.proofs.Totalling.{said_none, said_some}
-
-book_long : (m : List ℕ) → length (book_in m) ≡ shipments_in m
-unfolding book_in
-book_long m = shipments_many m 0 0 (shipments_in m)
-
--- the rows of n shipments from the i-th on
-rows_over : List ℕ → ℕ → ℕ → List SheetRow
-rows_over m i zero = []
-rows_over m i (suc n) = row_in m i ∷ rows_over m (suc i) n
-
-module _ (m : List ℕ) where
-  rows_of_book : (i n : ℕ) → map row_for (shipments_from m i (start_of m i) n) ≡ rows_over m i n
-  unfolding rows_over shipments_from
-  rows_of_book i zero = refl
-  rows_of_book i (suc n) = ap (λ rows. row_in m i ∷ rows) (rows_of_book (suc i) n)
-
-  rows_then : (i n : ℕ) → rows_over m i (suc n) ≡ rows_over m i n ++ (row_in m (i + n) ∷ [])
-  unfolding rows_over
-  rows_then i zero = ap (λ j. row_in m j ∷ []) (omega arith)
-  rows_then i (suc n) =
-      ap (λ rows. row_in m i ∷ rows) (rows_then (suc i) n) ∙ ap (λ j. row_in m i ∷ (rows_over m (suc i) n ++ (row_in m j ∷ []))) (omega arith)
-
-  rows_long : (i n : ℕ) → length (rows_over m i n) ≡ n
-  unfolding rows_over
-  rows_long i zero = refl
-  rows_long i (suc n) = ap suc (rows_long (suc i) n)
 
 -- one element set behind others
 set_behind : (xs ys : List SheetRow) (a : SheetRow) (n : ℕ) → length xs ≡ n → 0 < length ys
@@ -61,45 +32,55 @@ set_behind [] (y ∷ ys) a (suc n) is more = absurd (omega arith)
 set_behind (x ∷ xs) ys a zero is more = absurd (omega arith)
 set_behind (x ∷ xs) ys a (suc n) is more = ap (λ l. x ∷ l) (set_behind xs ys a n (omega arith) more)
 
-module _ (m : List ℕ) (table : List SheetRow) where
-  filled_rows : (n : ℕ) → n ≤ length table → filled_to m n table ≡ rows_over m 0 n ++ drop n table
-  unfolding rows_over
-  filled_rows zero within = refl
-  filled_rows (suc n) within =
-      let left : 0 < length (drop n table) = omega (arith, length-drop n table, within) in
-      let place : 0 + n ≡ n = omega arith in
-      ap (λ rows. set rows n (row_in m n)) (filled_rows n (omega arith))
-      ∙ set_behind (rows_over m 0 n) (drop n table) (row_in m n) n (rows_long m 0 n) left
-      ∙ ap (λ rows. rows ++ drop 1 (drop n table)) (sym (rows_then m 0 n ∙ ap (λ j. rows_over m 0 n ++ (row_in m j ∷ [])) place))
-      ∙ ap (λ rest. rows_over m 0 (suc n) ++ rest) (drop-drop 1 n table ∙ ap (λ k. drop k table) (add-one n))
+one_more : (n : ℕ) → 1 + n ≡ suc n
+one_more n = omega arith
 
-  filled_book : shipments_in m ≤ length table → filled_to m (shipments_in m) table ≡ map row_for (book_in m) ++ drop (length (book_in m)) table
-  unfolding book_in
-  filled_book within =
-      filled_rows (shipments_in m) within
-      ∙ ap (λ rows. rows ++ drop (shipments_in m) table) (sym (rows_of_book m 0 (shipments_in m)))
-      ∙ ap (λ k. map row_for (book_in m) ++ drop k table) (sym (book_long m))
+-- Rows put one behind the other, from the i-th on.
+pub put_from : ℕ → List SheetRow → List SheetRow → List SheetRow
+put_from i [] table = table
+put_from i (row ∷ rows) table = put_from (suc i) rows (set table i row)
 
--- each shipment of a sound book is at its place
-stands_at : (m : List ℕ) (i : ℕ) → sound_in m ≡ true → i ≤ shipments_in m → Stands m i (start_of m i) (shipments_in m - i)
-stands_at m zero sound within = let all : shipments_in m - 0 ≡ shipments_in m = omega arith in rw all (stands_first m sound)
-stands_at m (suc i) sound within =
-    let here = stands_at m i sound (omega arith) in
-    rw add-one at (stands_next here (omega arith) refl)
+put_behind : (done rows table : List SheetRow) (i : ℕ) → length done ≡ i → length rows ≤ length table
+    → put_from i rows (done ++ table) ≡ done ++ (rows ++ drop (length rows) table)
+unfolding put_from
+put_behind done [] table i is room = refl
+put_behind done (row ∷ rows) table i is room =
+    ap (put_from (suc i) rows) (set_behind done table row i is (omega (arith, room)))
+    ∙ put_behind (done ++ (row ∷ [])) rows (drop 1 table) (suc i) (omega (arith, is, length-append done (row ∷ []))) (omega (arith, length-drop 1 table, room))
+    ∙ append_assoc done (row ∷ []) (rows ++ drop (length rows) (drop 1 table))
+    ∙ ap (λ rest. done ++ (row ∷ (rows ++ rest))) (drop-drop (length rows) 1 table ∙ ap (λ k. drop k table) (one_more (length rows)))
 
--- as code fills one row more, of the shipment at the place that it has come to
-module _ (m : List ℕ) (i k : ℕ) (head : List ℕ) (rows : List Row) (is : shipment_in head rows ≡ shipment_at m i k) (here : k ≡ start_of m i) where
-  pub begins_next : {count : ℕ} → count ≡ length rows → k + count ≡ start_of m (i + 1)
-  begins_next many = rw add-one (λ t. here t + orders_are m i k head rows is many t)
+-- The rows of shipments that are left are still to put.
+pub record Filling (book : Book) (start : List SheetRow) (left : Book) (i : ℕ) (table : List SheetRow) : Type 0 where
+  pub whole : put_from i (map row_for left) table ≡ put_from 0 (map row_for book) start
+  pub room : i + length left ≤ length table
 
-  pub fills_next : (table : List SheetRow) {row : SheetRow} {filled : List SheetRow} → row ≡ row_for (shipment_in head rows) → filled ≡ filled_to m i table
-      → set filled i row ≡ filled_to m (i + 1) table
-  fills_next table is_row are = let one = is_row ∙ ap row_for (is ∙ ap (shipment_at m i) here) in rw add-one (λ t. set (are t) i (one t))
+long_rows : (book : Book) → length (map row_for book) ≡ length book
+long_rows [] = refl
+long_rows (s ∷ book) = ap suc (long_rows book)
 
--- each shipment of a sound book has a row to fill
-pub can_fill : (m : List ℕ) (table : List SheetRow) {n : ℕ} → sound_in m ≡ true → n ≡ shipments_in m → n ≤ length table → Fillable m (length table) n
-can_fill m table sound is_all enough =
-    rw is_all (record { within = omega arith; sits = λ i below. sits_here (stands_at m i sound (omega arith)) (omega arith) })
+module _ {book : Book} {start : List SheetRow} where
+  pub filling_begun : length book ≤ length start → Filling book start book 0 start
+  filling_begun enough = record { whole = refl; room = omega (arith, enough) }
+
+  pub filling_on : {left : Book} {i : ℕ} {table : List SheetRow} (s : Shipment) → Filling book start (s ∷ left) i table → {row : SheetRow} → row ≡ row_for s
+      → Filling book start left (i + 1) (set table i row)
+  unfolding put_from
+  filling_on {left} {i} {table} s going {row} is = record {
+    whole = rw (add-one, is) going.whole;
+    room = omega (arith, going.room, length-set table i row);
+  }
+
+  pub filling_done : {i : ℕ} {table : List SheetRow} → Filling book start [] i table → length book ≤ length start
+      → table ≡ map row_for book ++ drop (length book) start
+  unfolding put_from
+  filling_done going enough =
+      going.whole
+      ∙ put_behind [] (map row_for book) start 0 refl (omega (arith, long_rows book, enough))
+      ∙ ap (λ n. map row_for book ++ drop n start) (long_rows book)
+
+-- by which a table is filled
+pub ruleset filling = (filling_begun, filling_on, filling_done)
 
 -- what is asked of a sheet, in order, and what is then filled
 module _ (m : List ℕ) (table : List SheetRow) (totals : Totals) where
@@ -107,30 +88,36 @@ module _ (m : List ℕ) (table : List SheetRow) (totals : Totals) where
   unfolding sheet_of read_book
   no_book unsound = rw unsound
 
-  module _ (sound : sound_in m ≡ true) {n : ℕ} (is_all : n ≡ shipments_in m) where
+  module _ {book : Book} (found : (sound_in m ≡ true) × (book ≡ book_in m)) {n : ℕ} (is_all : n ≡ length book) where
     abbrev sums : Totals
-    sums = plus_all totals (map row_for (book_in m))
+    sums = plus_all totals (map row_for book)
+
+    many : n ≡ length (book_in m)
+    many = is_all ∙ ap length found.1
 
     pub no_room : length table < n → no_sheet table totals 25 ≡ sheet_of (read_book m) table totals
     unfolding sheet_of read_book asked
-    no_room short = rw (sound, lt-leb (length (book_in m)) (length table) (omega (arith, book_long m, is_all, short)))
+    no_room short = rw (found.0, lt-leb (length (book_in m)) (length table) (omega (arith, many, short)))
 
     module _ (enough : n ≤ length table) {added : Option Totals} (is_added : added ≡ if_within sums) where
       fits : leb (length (book_in m)) (length table) ≡ true
-      fits = le-leb (length (book_in m)) (length table) (omega (arith, book_long m, is_all, enough))
+      fits = le-leb (length (book_in m)) (length table) (omega (arith, many, enough))
+
+      sums_are : sums ≡ plus_all totals (map row_for (book_in m))
+      sums_are = ap (λ (book : Book). plus_all totals (map row_for book)) found.1
 
       pub above_cap : added ≡ None → no_sheet table totals 26 ≡ sheet_of (read_book m) table totals
       unfolding sheet_of read_book asked
-      above_cap none = rw (sound, fits, said_none sums (sym none ∙ is_added))
+      above_cap none = rw (found.0, fits, sym (ap within_cap sums_are) ∙ said_none sums (sym none ∙ is_added))
 
-      pub is_filled : {found : Result Totals Refusal} {next : Totals} {filled : List SheetRow} → added ≡ result_ok found → found ≡ Ok next → filled ≡ filled_to m n table
+      pub is_filled : {found_sums : Result Totals Refusal} {next : Totals} {filled : List SheetRow} → added ≡ result_ok found_sums → found_sums ≡ Ok next
+          → filled ≡ map row_for book ++ drop (length book) table
           → record { answer = Ok n; table = filled; totals = next } ≡ sheet_of (read_book m) table totals
       unfolding sheet_of read_book asked
-      is_filled is_found some rows =
+      is_filled is_found some all =
           let told = said_some sums (sym (is_found ∙ ap result_ok some) ∙ is_added) in
-          let long = is_all ∙ sym (book_long m) in
-          let all = rows ∙ ap (λ k. filled_to m k table) is_all ∙ filled_book m table (omega arith) in
-          rw (sound, fits, told.0) (λ t. record { answer = Ok (long t); table = all t; totals = told.1 t })
+          let rows = all ∙ ap (λ (book : Book). map row_for book ++ drop (length book) table) found.1 in
+          rw (found.0, fits, sym (ap within_cap sums_are) ∙ told.0) (λ t. record { answer = Ok (many t); table = rows t; totals = (told.1 ∙ sums_are) t })
 
 -- by which a sheet answers
-pub ruleset sheets = (no_book, no_room, above_cap, can_fill, is_filled)
+pub ruleset sheets = (no_book, no_room, above_cap, is_filled)

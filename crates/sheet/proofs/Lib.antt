@@ -2,7 +2,6 @@ pub mod Balance
 pub mod Answered
 pub mod Adding
 pub mod Dividing
-pub mod Standing
 pub mod Totalling
 pub mod Filled
 pub mod Examples

@@ -4,7 +4,7 @@
 use mathlib.Core.Path.{◌≡◌, refl, sym, ap, ◌∙◌}
 use mathlib.Core.Bool.{true, false, false≢true}
 use mathlib.Core.List.{List, [], ◌∷◌, map}
-use Prim.Native.Nat.{ℕ, ◌+◌, ◌-◌, ◌≤◌, ◌<◌}
+use Prim.Native.Nat.{ℕ, ◌≤◌}
 use native.Mathlib.Omega.{arith}
 use borrow.Author.Tests.{leb-true, le-leb}
 use Rattle.std.specs.Prelude.{Option, Some, None}
@@ -14,13 +14,12 @@ use Rattle.money.specs.declared.Money.TheVariants.{K, O}
 use Rattle.model.specs.Shipment.{Shipment}
 use Rattle.model.specs.Sound.{shipment_sound}
 use Rattle.model.proofs.SoundParts.{halves}
-use Rattle.memory.specs.Read.{orders_at, shipment_at, shipments_from, shipments_in, book_in, sound_in}
+use Rattle.model.specs.Book.{Book}
 use Rattle.sheet.specs.declared.SheetRow.{SheetRow}
 use Rattle.sheet.specs.declared.Totals.{Totals}
 use Rattle.sheet.specs.Sheet.{row_for, plus, plus_all, four_within, amounts_within, fees_within, within_cap}
-use Rattle.sheet.specs.Inner.Filling.{Stands, Within, TotalsWithin, RowWithin, if_within}
+use Rattle.sheet.specs.Inner.Filling.{Within, TotalsWithin, RowWithin, if_within}
 use Rattle.sheet.proofs.Dividing.{division_within_lem}
-use Rattle.sheet.proofs.Standing.{stands_first, sits_here, stands_next, row_then, rows_end}
 
 -- four sums within the cap, in plain terms and as a test
 four_within_lem : (a b c d : ℕ) → four_within a b c d ≡ true → Within a b c d
@@ -58,7 +57,7 @@ lower h first second third fourth = record {
 }
 
 -- the sums of a row
-row_within : (s : Shipment) → shipment_sound s ≡ true → RowWithin (row_for s)
+pub row_within : (s : Shipment) → shipment_sound s ≡ true → RowWithin (row_for s)
 unfolding row_for
 row_within s sound = (division_within_lem K s sound, division_within_lem O s sound)
 
@@ -102,47 +101,31 @@ above_already totals rows above =
     (λ within. absurd (false≢true (sym above ∙ was_within totals rows within)))
     (λ over. above_cap (plus_all totals rows) over)
 
--- The rows of the shipments from the i-th on are left to add.
-pub record Summing (m : List ℕ) (totals sums : Totals) (i k n : ℕ) : Type 0 where
-  pub stands : Stands m i k (n - i)
-  pub whole : plus_all sums (map row_for (shipments_from m i k (n - i))) ≡ plus_all totals (map row_for (book_in m))
+-- The rows of shipments that are left are still to add.
+pub record Summing (totals : Totals) (book left : Book) (sums : Totals) : Type 0 where
+  pub whole : plus_all sums (map row_for left) ≡ plus_all totals (map row_for book)
   pub within : within_cap sums ≡ true
 
-module _ {m : List ℕ} {totals : Totals} where
-  pub summing_begun : {n : ℕ} → sound_in m ≡ true → n ≡ shipments_in m → within_cap totals ≡ true → Summing m totals totals 0 0 n
-  unfolding book_in
-  summing_begun {n} sound is_all capped =
-      let all : n - 0 ≡ shipments_in m = omega arith in
-      record { stands = rw all (stands_first m sound); whole = rw all; within = capped }
+module _ {totals : Totals} {book : Book} where
+  pub summing_begun : within_cap totals ≡ true → Summing totals book book totals
+  summing_begun capped = record { whole = refl; within = capped }
 
-  module _ {sums : Totals} {i k n : ℕ} (summing : Summing m totals sums i k n) where
-    module _ {row : SheetRow} (more : i < n) (is_row : row ≡ row_for (shipment_at m i k)) where
-      pub row_low : RowWithin row
-      row_low = rw is_row (row_within (shipment_at m i k) (sits_here summing.stands more).sound)
-
-      -- the rows after this one
-      abbrev after : ℕ → List SheetRow
-      after count = map row_for (shipments_from m (i + 1) (k + count) (n - (i + 1)))
-
-      whole_after : {count : ℕ} → count ≡ orders_at m i → plus_all (plus sums row) (after count) ≡ plus_all totals (map row_for (book_in m))
-      unfolding plus_all
-      whole_after is_count = rw is_row (ap (plus_all sums) (sym (row_then summing.stands more is_count)) ∙ summing.whole)
-
-      pub above_here : {added : Option Totals} → added ≡ if_within (plus sums row) → added ≡ None → None ≡ if_within (plus_all totals (map row_for (book_in m)))
-      above_here is none =
-          above_already (plus sums row) (after (orders_at m i)) (said_none (plus sums row) (sym none ∙ is)) ∙ ap if_within (whole_after refl)
-
-      pub summing_on : {added : Option Totals} {next : Totals} {count : ℕ} → added ≡ if_within (plus sums row) → added ≡ Some next → count ≡ orders_at m i
-          → Summing m totals next (i + 1) (k + count) n
-      summing_on is some is_count =
-          let told = said_some (plus sums row) (sym some ∙ is) in
-          rw told.1 (record { stands = stands_next summing.stands more is_count; whole = whole_after is_count; within = told.0 })
-
-    pub all_summed : n ≤ i → Some sums ≡ if_within (plus_all totals (map row_for (book_in m)))
+  module _ {sums : Totals} {s : Shipment} {left : Book} (summing : Summing totals book (s ∷ left) sums) {row : SheetRow} (is_row : row ≡ row_for s) where
+    whole_after : plus_all (plus sums row) (map row_for left) ≡ plus_all totals (map row_for book)
     unfolding plus_all
-    all_summed done =
-        let are : sums ≡ plus_all totals (map row_for (book_in m)) = ap (plus_all sums) (sym (rows_end m i k n done)) ∙ summing.whole in
-        below_cap sums summing.within ∙ ap if_within are
+    whole_after = rw is_row summing.whole
+
+    pub above_here : {added : Option Totals} → added ≡ if_within (plus sums row) → added ≡ None → None ≡ if_within (plus_all totals (map row_for book))
+    above_here is none = above_already (plus sums row) (map row_for left) (said_none (plus sums row) (sym none ∙ is)) ∙ ap if_within whole_after
+
+    pub summing_on : {added : Option Totals} {next : Totals} → added ≡ if_within (plus sums row) → added ≡ Some next → Summing totals book left next
+    summing_on is some =
+        let told = said_some (plus sums row) (sym some ∙ is) in
+        rw told.1 (record { whole = whole_after; within = told.0 })
+
+  pub all_summed : {sums : Totals} → Summing totals book [] sums → Some sums ≡ if_within (plus_all totals (map row_for book))
+  unfolding plus_all
+  all_summed {sums} summing = below_cap sums summing.within ∙ ap if_within summing.whole
 
 -- by which rows are added up
-pub ruleset summing = (cap_within, above_already, summing_begun, row_low, above_here, summing_on, all_summed)
+pub ruleset summing = (cap_within, above_already, summing_begun, above_here, summing_on, all_summed)

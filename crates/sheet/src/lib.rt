@@ -6,22 +6,18 @@ pub mod refusal;
 mod row;
 mod total;
 
-ghost use Rattle.std.specs.Prelude.{◌≡◌, length};
+ghost use Rattle.std.specs.Prelude.{◌≡◌, ◌≤◌, ◌++◌, length, drop, map};
 ghost use Rattle.epe.specs.Numbered.{numbered};
 ghost use Rattle.memory.specs.Read.{read_book};
 ghost use Rattle.sheet.specs.Refusal.{number_of};
-ghost use Rattle.sheet.specs.Sheet.{sheet_of};
-ghost use Rattle.sheet.specs.Inner.Filling.{filled_to, Fillable};
+ghost use Rattle.sheet.specs.Sheet.{row_for, sheet_of};
 
 use crate::refusal::Refusal;
 use crate::row::row_for;
 use crate::total::add;
 use epe::ident::Ident;
-use memory::Memory;
-use memory::place::Place;
-use memory::shipment::LentShipment;
 use money::{Amount, Fee};
-use sound::is_sound;
+use sound::book::Book;
 
 // What was accepted, is held, is free and has left, in K.
 // Kept: 2b: the C interface has two structs, of two moneys that are never added to each other.
@@ -63,33 +59,28 @@ pub struct Totals {
 }
 
 // The balance sheet of a book: a row of the table is filled for each shipment, in order of intake, and the rows are added to the totals.
-#[tactic(auto, using(sound::proofs::ReadLaws::sound_parts, crate::proofs::Filled::sheets))]
+#[tactic(auto, using(crate::proofs::Filled::sheets))]
 pub fn sheet(book: &[u8], table: &mut [SheetRow], totals: &mut Totals) -> Result<u64, Refusal>
     ensures { record { answer = numbered number_of result; table = table.new; totals = totals.new } ≡ sheet_of (read_book book.now) table.old totals.old }
 {
-    if !is_sound(book) {
-        return Err(Refusal::Unsound);
-    }
-    let n = Memory::lent(book).shipments();
+    let book = Book::of(book).ok_or(Refusal::Unsound)?;
+    let n = book.len();
     if table.len() < n {
         return Err(Refusal::NoRoom);
     }
-    let sums = add(book, n, *totals).ok_or(Refusal::AboveCap)?;
-    fill(table, book, n);
+    let sums = add(&book, *totals).ok_or(Refusal::AboveCap)?;
+    fill(table, &book);
     *totals = sums;
     Ok(n as u64)
 }
 
-// Fills the first n rows of a table with those of a book.
-#[tactic(auto, using(crate::proofs::Filled::begins_next, crate::proofs::Filled::fills_next))]
-fn fill(table: &mut [SheetRow], book: &[u8], n: usize)
-    requires { Fillable book.now (length table.old) n }
-    ensures { table.new ≡ filled_to book.now n table.old }
+// Fills the first rows of a table with those of a book.
+#[tactic(auto, using(crate::proofs::Filled::filling))]
+fn fill(table: &mut [SheetRow], book: &Book)
+    requires { length book.now ≤ length table.old }
+    ensures { table.new ≡ map row_for book.now ++ drop (length book.now) table.old }
 {
-    let mut k = 0;
-    for i in 0..n {
-        let shipment = LentShipment::at(book, Place { head: i, row: k });
+    for (i, shipment) in book.into_iter().enumerate() {
         table[i] = row_for(&shipment);
-        k += shipment.rows.len();
     }
 }

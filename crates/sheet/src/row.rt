@@ -1,10 +1,9 @@
 // A row of the sheet. A shipment's orders are passed once; what has left is what was accepted, less what is held and what is free.
 ghost use Rattle.std.specs.Prelude.{◌≡◌, ◌+◌, ◌<◌, ◌^◌};
 ghost use Rattle.model.specs.Shipment.{need_once_paired, held};
-ghost use Rattle.memory.specs.Lent.{shipment_of};
 ghost use Rattle.sheet.specs.Sheet.{row_for};
 ghost use Rattle.sheet.specs.Inner.Parts.{no_parts, with_order, parts_of, parts_once_paired, SmallParts, division_of};
-ghost use Rattle.sheet.specs.Inner.Filling.{DivisionWithin};
+ghost use Rattle.sheet.specs.Inner.Filling.{DivisionWithin, RowWithin};
 
 use crate::division::Division;
 use crate::{Amounts, Fees, SheetRow};
@@ -25,10 +24,11 @@ pub struct Parts {
 
 // The row of a shipment.
 pub fn row_for(shipment: &LentShipment) -> SheetRow
-    ensures { result ≡ row_for (shipment_of shipment.now) }
+    ensures value { result ≡ row_for shipment.now }
+    ensures within { RowWithin result }
 {
     let parts = parts_for(shipment);
-    let ident = shipment.head.ident();
+    let ident = shipment.ident();
     let amounts = division_for(shipment, Money::K, parts.amounts.0, parts.held.0);
     let fees = division_for(shipment, Money::O, parts.fees.0, parts.fees_held.0);
     SheetRow {
@@ -41,18 +41,18 @@ pub fn row_for(shipment: &LentShipment) -> SheetRow
 // The parts of a shipment; none unless it is Paired.
 #[tactic(auto, using(crate::proofs::Adding::by_stage))]
 fn parts_for(shipment: &LentShipment) -> Parts
-    ensures { result ≡ parts_once_paired (shipment_of shipment.now) }
+    ensures { result ≡ parts_once_paired shipment.now }
 {
-    if !shipment.head.is_paired() {
+    if !shipment.is_paired() {
         return no_parts();
     }
-    parts_of(&shipment.rows)
+    parts_of(shipment.rows())
 }
 
 // What was accepted of a money in a shipment, divided by what its orders need and hold: each order needs its own worth, and holds it or not.
 fn division_for(shipment: &LentShipment, money: Money, needs: u64, holds: u64) -> Division
-    requires { (needs ≡ need_once_paired money (shipment_of shipment.now)) × (holds ≡ held money (shipment_of shipment.now)) }
-    ensures value { result ≡ division_of money (shipment_of shipment.now) }
+    requires { (needs ≡ need_once_paired money shipment.now) × (holds ≡ held money shipment.now) }
+    ensures value { result ≡ division_of money shipment.now }
     ensures within { DivisionWithin result }
 {
     let accepted = shipment.accepted(money).grosze();

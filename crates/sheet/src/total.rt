@@ -1,30 +1,23 @@
 // The totals: a row is added where no total passes the cap by it. Sums only grow, so that one past the cap is past it after all rows too.
-ghost use Rattle.std.specs.Prelude.{◌≡◌, true, map};
-ghost use Rattle.memory.specs.Read.{shipments_in, book_in, sound_in};
+ghost use Rattle.std.specs.Prelude.{◌≡◌, map};
 ghost use Rattle.sheet.specs.Sheet.{row_for, plus, plus_all, within_cap};
 ghost use Rattle.sheet.specs.Inner.Filling.{TotalsWithin, RowWithin, if_within};
 
 use crate::row::row_for;
 use crate::{Amounts, Fees, SheetRow, Totals};
-use memory::place::Place;
-use memory::shipment::LentShipment;
+use sound::book::Book;
 
-// The totals with the rows of all n shipments of a sound book added, if none of them is then above the cap.
-#[tactic(auto, using(memory::proofs::HeadFields::orders_are, crate::proofs::Standing::sits_here, crate::proofs::Totalling::summing))]
-pub fn add(memory: &[u8], n: usize, totals: Totals) -> Option<Totals>
-    requires { (sound_in memory.now ≡ true) × (n ≡ shipments_in memory.now) }
-    ensures { result ≡ if_within (plus_all totals (map row_for (book_in memory.now))) }
+// The totals with the rows of a book added, if none of them is then above the cap.
+#[tactic(auto, using(crate::proofs::Totalling::summing))]
+pub fn add(book: &Book, totals: Totals) -> Option<Totals>
+    ensures { result ≡ if_within (plus_all totals (map row_for book.now)) }
 {
     if !is_within(totals) {
         return None;
     }
     let mut sums = totals;
-    let mut k = 0;
-    // Kept: 3c: where heads lie only memory knows: above it a head is reached by its number.
-    for i in 0..n {
-        let shipment = LentShipment::at(memory, Place { head: i, row: k });
+    for shipment in book {
         sums = plus(sums, row_for(&shipment))?;
-        k += shipment.rows.len();
     }
     Some(sums)
 }

@@ -1,5 +1,6 @@
 pub mod ReadLaws
 pub mod RowClasses
+pub mod Standing
 pub mod Tallying
 pub mod JudgedIsSound
 pub mod HeadByHead

@@ -2,6 +2,7 @@
 #![tactic(auto)]
 
 mod apart;
+pub mod book;
 mod charges;
 mod shipment;
 mod tally;

@@ -8,4 +8,4 @@ pub at-requires : goal.at-requires
 at-requires c = sits (called_in c.args.ident) c.in-Ok.ensures
 
 pub returns-else-is_paired : goal.returns-else-is_paired
-returns-else-is_paired c = refused_not_paired c.args.ident c.args.memory.now c.in-Ok.ensures _ _ c.at.ensures c.is_paired.ensures c.if-is_paired.false
+returns-else-is_paired c = refused_not_paired c.args.ident c.args.memory.now c.in-Ok.ensures _ c.at.ensures c.is_paired.ensures c.if-is_paired.false

@@ -1,7 +1,6 @@
--- `sheet::fill`: the first i rows are filled, and the next shipment's orders begin at k.
-use Rattle.std.proofs.Common.{◌≡◌}
-use Rattle.sheet.specs.Inner.Filling.{start_of, filled_to}
+-- `sheet::fill`: the rows of the shipments that are left are still to put.
+use Rattle.sheet.proofs.Filled.{Filling}
 use Rattle.sheet.proofs.fill.Given as goal
 
 abbrev pub invariant-loop-i : goal.invariant-loop-i
-invariant-loop-i l = (l.k ≡ start_of l.book l.i) × (l.table ≡ filled_to l.book l.i l.initial.table)
+invariant-loop-i l = Filling l.book l.initial.table l.i-iterator.iter l.i-iterator.count l.table

@@ -12,7 +12,7 @@ pub clear_row-taken-requires : goal.clear_row-taken-requires
 clear_row-taken-requires c =
     let m = c.args.memory.now in
     let is_head = c.at.ensures in
-    let count_is = orders_are m c.args.place.head c.args.place.row _ _ is_head c.len-n.ensures.0 in
+    let count_is = orders_are m c.args.place.head c.args.place.row _ is_head _ c.rows.ensures c.len-n.ensures.0 in
     let cleared = c.loop-done.invariant.0 c.args.route c.wait_table-table.ensures in (
       omega (arith, count_is, c.requires.0.room),
       rw cleared.returned.only.as_long c.requires.0.enough,
@@ -24,7 +24,7 @@ clear_row-taken-requires c =
 pub loop-done-preserved : goal.loop-done-preserved
 loop-done-preserved c =
     let row = c.clear_row-taken in
-    let count_is = orders_are c.args.memory.now c.args.place.head c.args.place.row _ _ c.at.ensures c.len-n.ensures.0 in (
+    let count_is = orders_are c.args.memory.now c.args.place.head c.args.place.row _ c.at.ensures _ c.rows.ensures c.len-n.ensures.0 in (
       λ route is. one_more_cleared (omega (arith, count_is, c.requires.0.room, c.loop-done-test.true)) (c.loop-done.invariant.0 route is) (row.ensures.0 route is),
       omega (arith, c.loop-done-test.true),
       omega (arith, row.ensures.1, c.loop-done.invariant.2),
@@ -35,7 +35,7 @@ pub of-sum-requires : goal.of-sum-requires
 of-sum-requires c =
     let m = c.args.memory.now in
     let is_head = c.at.ensures in
-    let count_is = orders_are m c.args.place.head c.args.place.row _ _ is_head c.len-n.ensures.0 in
+    let count_is = orders_are m c.args.place.head c.args.place.row _ is_head _ c.rows.ensures c.len-n.ensures.0 in
     let cleared = c.loop-done.invariant.0 c.args.route c.wait_table-table.ensures in
     let all : c.loop-done.done ≡ c.len-n.result = omega (arith, c.loop-done-test.false) in
     rw (worth_is m c.args.place.head c.args.place.row (rw (all ∙ count_is) at cleared) c.wait_of-wait.ensures.0) c.requires.1
@@ -48,7 +48,7 @@ pub returns : goal.returns
 returns c =
     let m = c.args.memory.now in
     let is_head = c.at.ensures in
-    let count_is = orders_are m c.args.place.head c.args.place.row _ _ is_head c.len-n.ensures.0 in
+    let count_is = orders_are m c.args.place.head c.args.place.row _ is_head _ c.rows.ensures c.len-n.ensures.0 in
     let cleared = c.loop-done.invariant.0 c.args.route c.wait_table-table.ensures in
     let all : c.loop-done.done ≡ c.len-n.result = omega (arith, c.loop-done-test.false) in
     all_cleared m c.args.place.head c.args.place.row (rw (all ∙ count_is) at cleared) c.wait_of-wait.ensures.0 c.of-sum.ensures

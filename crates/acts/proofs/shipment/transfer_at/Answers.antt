@@ -15,7 +15,7 @@ overflow_add-total c =
 pub returns-then-not-is_sum : goal.returns-then-not-is_sum
 returns-then-not-is_sum c =
     rw (← c.money-money.ensures, ← c.grosze-2.ensures)
-    (too_much_at _ _ _ c.requires.0 _ _ c.at.ensures _ _ (c.grosze.ensures ∙ grosze_is _ _ c.accepted-before.ensures.0) (sym c.is_sum.ensures ∙ c.if-not-is_sum.true))
+    (too_much_at _ _ _ c.requires.0 _ c.at.ensures _ _ (c.grosze.ensures ∙ grosze_is _ _ c.accepted-before.ensures.0) (sym c.is_sum.ensures ∙ c.if-not-is_sum.true))
 
 pub of-requires : goal.of-requires
 of-requires c =
@@ -24,4 +24,4 @@ of-requires c =
 pub returns : goal.returns
 returns c =
     rw (c.store_accepted.ensures, grosze_is _ _ c.of.ensures, money_is _ _ c.of.ensures, ← c.money-money.ensures, ← c.grosze-2.ensures)
-    (transferred_at _ _ _ c.requires.0 _ _ c.at.ensures _ _ (c.grosze.ensures ∙ grosze_is _ _ c.accepted-before.ensures.0) (sym c.is_sum.ensures ∙ c.if-not-is_sum.false))
+    (transferred_at _ _ _ c.requires.0 _ c.at.ensures _ _ (c.grosze.ensures ∙ grosze_is _ _ c.accepted-before.ensures.0) (sym c.is_sum.ensures ∙ c.if-not-is_sum.false))

@@ -9,7 +9,7 @@ use Rattle.acts.proofs.surplus.free_in.Goals as goal
 pub overflow_sub-grosze : goal.overflow_sub-grosze
 overflow_sub-grosze c =
     rw (c.grosze.ensures ∙ grosze_is _ _ c.accepted-accepted.ensures.0, c.grosze-2.ensures ∙ grosze_is _ _ c.need_in-need.ensures)
-    (needed_within _ _ c.args.shipment.now.sound c.args.money)
+    (needed_within _ c.accepted-accepted.ensures.2 c.args.money)
 
 pub overflow_sub-grosze-2 : goal.overflow_sub-grosze-2
 overflow_sub-grosze-2 c =
@@ -17,7 +17,7 @@ overflow_sub-grosze-2 c =
       c.grosze.ensures ∙ grosze_is _ _ c.accepted-accepted.ensures.0,
       c.grosze-2.ensures ∙ grosze_is _ _ c.need_in-need.ensures,
       c.grosze-3.ensures ∙ grosze_is _ _ c.returned-returned.ensures.0,
-    ) (gone_within _ _ c.args.shipment.now.sound c.args.money)
+    ) (gone_within _ c.accepted-accepted.ensures.2 c.args.money)
 
 pub of-requires : goal.of-requires
 of-requires c =

@@ -2,5 +2,5 @@
 use Rattle.sheet.proofs.Totalling.{Summing}
 use Rattle.sheet.proofs.total.add.Given as goal
 
-abbrev pub invariant-loop-i : goal.invariant-loop-i
-invariant-loop-i l = Summing l.memory l.initial.sums l.sums l.i l.k l.n
+abbrev pub invariant-loop-shipment : goal.invariant-loop-shipment
+invariant-loop-shipment l = Summing l.initial.sums l.book l.shipment-iterator l.sums
