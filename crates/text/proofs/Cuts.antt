@@ -49,21 +49,22 @@ module _ (separator : ℕ) (s table : List ℕ) (i n : ℕ) (noted : Noted separ
       let e : n ≡ length table = omega (arith, noted.fits) in
       rw (← e) (take_at (take n table) rest n (length-take-le n table noted.fits))
 
-  pub noted_full : length table ≤ n → Noted separator s table (i + 1) n
-  noted_full k = record {
-    fits = noted.fits;
-    whole = full (cuts_from separator (i + 1) (drop (i + 1) s)) k ∙ sym (full (cuts_from separator i (drop i s)) k) ∙ noted.whole;
-  }
+  -- where nothing is left to note, the number is told by what is noted
+  told : take n table ≡ take (length table) (cuts_from separator 0 s)
+      → (n ≡ cut_count (length table) separator s) × (take n table ≡ take (length table) (cuts_from separator 0 s))
+  unfolding cut_count
+  told same = (sym (length-take-le n table noted.fits) ∙ ap length same ∙ length-take (length table) (cuts_from separator 0 s), same)
+
+  -- the table is full
+  pub noted_full : length table ≤ n → (n ≡ cut_count (length table) separator s) × (take n table ≡ take (length table) (cuts_from separator 0 s))
+  noted_full k = told (sym (full (cuts_from separator i (drop i s)) k) ∙ noted.whole)
 
   -- the text is at its end
   pub noted_all : length s ≤ i → (n ≡ cut_count (length table) separator s) × (take n table ≡ take (length table) (cuts_from separator 0 s))
-  unfolding cut_count cuts_from
+  unfolding cuts_from
   noted_all h =
-      let all = cuts_from separator 0 s in
-      let held : length (take n table) ≡ n = length-take-le n table noted.fits in
-      let ended : take (length table) (take n table) ≡ take (length table) all = rw (drop_of_length-le s h, append-nil (take n table)) at noted.whole in
-      let same : take n table ≡ take (length table) all = sym (take_all (length table) (take n table) (omega (arith, held, noted.fits))) ∙ ended in
-      (sym held ∙ ap length same ∙ length-take (length table) all, same)
+      let held : length (take n table) ≤ length table = omega (arith, length-take-le n table noted.fits, noted.fits) in
+      told (sym (take_all (length table) (take n table) held) ∙ rw (drop_of_length-le s h, append-nil (take n table)) at noted.whole)
 
 -- a list cut or filled up with zeros to n
 pub padded : (n : ℕ) (l : List ℕ) → take n l ++ replicate (n - min n (length l)) 0 ≡ take n (l ++ replicate n 0)

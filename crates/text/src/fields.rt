@@ -86,7 +86,7 @@ impl<'a, const SEPARATOR: u8, const ROOM: usize> Fields<'a, SEPARATOR, ROOM> {
 
 // Fills a table with the places of a text's separators, as many as it has room for, zeros behind them, and answers how many it holds.
 #[tactic(auto, unfolding(crate::specs::Fields::cut_count))]
-fn cut(s: &[u8], separator: u8, table: &mut [usize]) -> usize
+pub fn cut(s: &[u8], separator: u8, table: &mut [usize]) -> usize
     ensures value { result ≡ cut_count (length table.old) separator s.now }
     ensures table_after { table.new ≡ cut_table (length table.old) separator s.now }
 {
@@ -96,17 +96,42 @@ fn cut(s: &[u8], separator: u8, table: &mut [usize]) -> usize
     count
 }
 
+// Field k of a text, counted from 0, by the table of its cuts and their number, as `cut` leaves them.
+// Kept: 6a: it is for a table that a caller cut, of any room and at any separator; a `Fields` has its own, whose places need no test.
+#[tactic(auto, using(crate::proofs::Branches::branches), unfolding(crate::specs::Fields::field_by))]
+pub fn field<'a, 'b>(s: &'a [u8], table: &'b [usize], count: usize, k: usize) -> &'a [u8]
+    ensures { result.now ≡ field_by table.now count k s.now }
+{
+    if count < k {
+        return &s[s.len()..];
+    }
+    let end = if k < count {
+        table.get(k).copied().unwrap_or(0)
+    } else {
+        s.len()
+    };
+    let start = if k == 0 {
+        0
+    } else {
+        table.get(k - 1).copied().unwrap_or(0).saturating_add(1)
+    };
+    slice(s, start, end)
+}
+
 // Notes the places of the separators, as many as the table has room for, and answers how many; the place behind the last is overwritten.
 fn note_cuts(s: &[u8], separator: u8, table: &mut [usize]) -> usize
     ensures value { result ≡ cut_count (length table.old) separator s.now }
     ensures table_after { take result table.new ≡ take (length table.old) (cuts separator s.now) }
 {
     let mut count = 0;
+    // Kept: 6c: a full table ends it, however long the text is. The table walked beside the separators alone, by `zip` of a `filter`, has a branch at
+    // each byte, and took 231 nanoseconds for a line of 114 bytes in plain Rust, this 123.
     for (i, b) in s.iter().enumerate() {
-        if count < table.len() {
-            table[count] = i;
-            count += usize::from(*b == separator);
+        if count == table.len() {
+            break;
         }
+        table[count] = i;
+        count += usize::from(*b == separator);
     }
     count
 }

@@ -2,18 +2,20 @@
 use Rattle.std.proofs.Common.{arith}
 use Rattle.text.proofs.Cuts.{noted_more, noted_full, noted_all}
 use Rattle.text.proofs.fields.note_cuts.Goals as goal
-use Rattle.text.proofs.fields.note_cuts.Goals.{then-count-table, else-count-table}
 
 pub loop-i-preserved : goal.loop-i-preserved
 loop-i-preserved c =
     let at = c.loop-i in
-    elim c.if-count-table.branch [
-      | then-count-table w ↦ rw (w.table-is, w.count-is, w.from-count.ensures) (noted_more _ c.args.s.now at.table at.i at.count at.invariant (omega arith) w.if-count-table.true)
-      | else-count-table w ↦ rw (w.table-is, w.count-is) (noted_full _ c.args.s.now at.table at.i at.count at.invariant w.if-count-table.false)
-    ]
+    rw c.from-count.ensures (noted_more _ c.args.s.now at.table at.i at.count at.invariant (omega arith) (omega (arith, at.invariant.fits, c.if-count-table.false)))
 
-pub returns : goal.returns
-returns c =
+pub returns-then-count-table : goal.returns-then-count-table
+returns-then-count-table c =
+    let at = c.loop-i in
+    let told = noted_full _ c.args.s.now at.table at.i at.count at.invariant (omega (arith, c.if-count-table.true)) in
+    rw (← at.auto.table) record { value = told.0; table_after = told.1 }
+
+pub returns-after-loop-i : goal.returns-after-loop-i
+returns-after-loop-i c =
     let end = c.loop-i in
     let told = noted_all _ c.args.s.now end.table end.i end.count end.invariant (omega arith) in
     rw (← end.auto.table) record { value = told.0; table_after = told.1 }
