@@ -1,5 +1,5 @@
 // The profile of an intake.
-ghost use Rattle.std.specs.Prelude.{◌≡◌};
+ghost use Rattle.std.specs.Prelude.{◌≡◌, true};
 ghost use Rattle.fee.specs.Fee.{is_rate};
 ghost use Rattle.epe.specs.Questions.{first_no, verdict_of};
 ghost use Rattle.epe.specs.Profile.{each, as_fees, fees_fit, profile_fits, profile_questions, terms_for};
@@ -71,16 +71,17 @@ pub fn terms_of(profile: Profile, kind: u64) -> Terms
 pub fn are_fees(numbers: [u64; 5]) -> bool
     ensures { result ≡ fees_fit (as_fees numbers) }
 {
-    fees_fit(fees_of(numbers))
+    numbers.iter().all(|grosze| Fee::is_order(*grosze))
 }
 
 // Five numbers as fees.
 // Kept: 6d: a journal, which the C interface lends, has five fees as plain numbers.
-#[tactic(auto, unfolding(crate::specs::Profile::as_fees))]
+#[tactic(auto, using(crate::proofs::ProfileLaws::fees_in_turn))]
 pub fn fees_of(numbers: [u64; 5]) -> [Fee; 5]
+    requires { fees_fit (as_fees numbers) ≡ true }
     ensures { result ≡ as_fees numbers }
 {
-    numbers.map(Fee)
+    numbers.map(Fee::order)
 }
 
 // Is each of five fees within its cap?

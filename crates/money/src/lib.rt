@@ -2,8 +2,8 @@
 // The texts of an order's amount and of a sum.
 #![tactic(auto)]
 
-ghost use Rattle.std.specs.Prelude.{◌≡◌, ℕ, ◌&&◌, ◌+◌, ◌-◌, ◌^◌, ◌≤◌, eqb, IfSome};
-ghost use Rattle.money.specs.Money.{order_cap, sum_cap, is_sum, sum_of, grosze_in, money_of_sum, as_transfer};
+ghost use Rattle.std.specs.Prelude.{◌≡◌, ℕ, ◌&&◌, ◌+◌, ◌-◌, ◌^◌, ◌≤◌, eqb, refl, IfSome};
+ghost use Rattle.money.specs.Money.{order_cap, sum_cap, total_cap, is_sum, sum_of, grosze_in, money_of_sum, as_transfer};
 ghost use Rattle.money.specs.Money.{WithinOrder, WithinSum, WithinTotal, is_order, is_transfer, is_total};
 ghost use Rattle.money.specs.Text.{no_leading_zero, text_of, order_text, sum_text};
 
@@ -43,8 +43,23 @@ pub trait Grosze: Copy {
 
     ghost LEAST: { ℕ };
 
+    ghost ORDER_CAP: { ℕ } = { order_cap };
+
+    ghost SUM_CAP: { ℕ } = { sum_cap };
+
+    ghost TOTAL_CAP: { ℕ } = { total_cap };
+
     // The least that an order holds.
     const LEAST: u64;
+
+    // The most that an order holds.
+    const ORDER_CAP: u64;
+
+    // The most that a sum comes to.
+    const SUM_CAP: u64;
+
+    // The most that a total of the balance sheet comes to.
+    const TOTAL_CAP: u64;
 
     // So many grosze.
     fn from_grosze(grosze: u64) -> Self
@@ -82,28 +97,28 @@ pub trait Grosze: Copy {
     fn is_order(grosze: u64) -> bool
         ensures { result ≡ is_order LEAST grosze }
     {
-        (Self::LEAST..=Amount::ORDER_CAP).contains(&grosze)
+        (Self::LEAST..=Self::ORDER_CAP).contains(&grosze)
     }
 
     // Are the grosze a sum?
     fn is_sum(grosze: u64) -> bool
         ensures { result ≡ is_sum grosze }
     {
-        grosze <= Amount::SUM_CAP
+        grosze <= Self::SUM_CAP
     }
 
     // Are the grosze a transfer?
     fn is_transfer(grosze: u64) -> bool
         ensures { result ≡ is_transfer grosze }
     {
-        (1..=Amount::SUM_CAP).contains(&grosze)
+        (1..=Self::SUM_CAP).contains(&grosze)
     }
 
     // Are the grosze a total?
     fn is_total(grosze: u64) -> bool
         ensures { result ≡ is_total grosze }
     {
-        grosze <= Amount::TOTAL_CAP
+        grosze <= Self::TOTAL_CAP
     }
 
     // The grosze less others, none where the others are more.
@@ -112,6 +127,9 @@ pub trait Grosze: Copy {
     {
         Self::from_grosze(self.grosze().saturating_sub(other.grosze()))
     }
+
+    // "Both caps belong to the money": each money's are those of the definitions.
+    ghost caps: { (ORDER_CAP ≡ order_cap) × (SUM_CAP ≡ sum_cap) × (TOTAL_CAP ≡ total_cap) };
 }
 
 impl Grosze for Amount {
@@ -123,7 +141,15 @@ impl Grosze for Amount {
 
     ghost LEAST = { 1 };
 
+    ghost caps = { (refl, refl, refl) };
+
     const LEAST: u64 = 1;
+
+    const ORDER_CAP: u64 = Amount::ORDER_CAP;
+
+    const SUM_CAP: u64 = Amount::SUM_CAP;
+
+    const TOTAL_CAP: u64 = Amount::TOTAL_CAP;
 
     fn from_grosze(grosze: u64) -> Amount {
         Amount(grosze)
@@ -143,8 +169,19 @@ impl Grosze for Fee {
 
     ghost LEAST = { 0 };
 
+    ghost caps = { (refl, refl, refl) };
+
     // Kept: 2d: the trait asks each money for its own least.
     const LEAST: u64 = 0;
+
+    // Kept: 2d: the trait asks each money for its own caps.
+    const ORDER_CAP: u64 = Fee::ORDER_CAP;
+
+    // Kept: 2d: the trait asks each money for its own caps.
+    const SUM_CAP: u64 = Fee::SUM_CAP;
+
+    // Kept: 2d: the trait asks each money for its own caps.
+    const TOTAL_CAP: u64 = Fee::TOTAL_CAP;
 
     fn from_grosze(grosze: u64) -> Fee {
         Fee(grosze)
@@ -157,12 +194,15 @@ impl Grosze for Fee {
 
 impl Amount {
     // The most that an order holds.
+    // Kept: 2d: the trait asks each money for its own caps, which are read without the trait too.
     pub const ORDER_CAP: u64 = 999_999_999;
 
     // The most that a sum comes to.
+    // Kept: 2d: the trait asks each money for its own caps, which are read without the trait too.
     pub const SUM_CAP: u64 = 9_999_999_999_999;
 
     // The most that a total of the balance sheet comes to.
+    // Kept: 2d: the trait asks each money for its own caps, which are read without the trait too.
     pub const TOTAL_CAP: u64 = 999_999_999_999_999;
 
     // What a text says as an order's amount.
