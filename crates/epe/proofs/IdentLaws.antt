@@ -3,12 +3,13 @@
 use mathlib.Core.Path.{◌≡◌, refl, sym, ◌∙◌, ap}
 use mathlib.Core.Bool.{true, ◌&&◌}
 use mathlib.Core.List.{List, [], ◌∷◌, ◌++◌}
-use Prim.Native.Nat.{ℕ, zero, suc, min, ◌-◌, ◌≤◌}
+use Prim.Native.Nat.{ℕ, zero, suc, min, ◌+◌, ◌-◌, ◌<◌, ◌≤◌}
+use native.Mathlib.Numerals.{add-one}
 use native.Mathlib.Omega.{arith}
 use borrow.Author.Tests.{leb-true, le-leb, eqb-true, eq-eqb}
 use lib.Dec.{leb, eqb}
-use lib.ListN.{length, get_or, take, drop, replicate, take-append-drop}
-use lib.Seq.{length-take-le, take_all, take-append_seam, drop-append_seam}
+use lib.ListN.{length, get_or, set, take, drop, replicate, length-append, length-replicate, take-append-drop}
+use lib.Seq.{length-take-le, take_all, take-suc, take-suc-set, take-append_seam, drop-append_seam}
 use Rattle.text.specs.Bytes.{between, letter, letters_or_digits, same}
 use Rattle.text.proofs.Branches.{and_left, and_right, both_yes}
 use Rattle.text.proofs.Cuts.{padded}
@@ -82,3 +83,10 @@ get_d_padded [] (suc n) zero = refl
 get_d_padded [] (suc n) (suc i) = get_d_padded [] n i
 get_d_padded (b ∷ s) n zero = refl
 get_d_padded (b ∷ s) n (suc i) = get_d_padded s n i
+
+module _ (s bytes : List ℕ) (n i : ℕ) (room : i < n) (size : length bytes ≡ n) where
+  pub byte_copied : take i bytes ≡ take i (s ++ replicate n 0) → take (i + 1) (set bytes i (get_or s i 0)) ≡ take (i + 1) (s ++ replicate n 0)
+  byte_copied copied =
+      let all = s ++ replicate n 0 in
+      let long : i < length all = omega (arith, length-append s (replicate n 0), length-replicate {A = ℕ} n 0) in
+      rw (add-one, take-suc-set bytes i (get_or s i 0) (omega arith), take-suc all i 0 long, get_d_padded s n i, copied)

@@ -2,7 +2,7 @@
 ghost use Rattle.std.specs.Prelude.{◌≡◌, ◌++◌, take, replicate};
 ghost use Rattle.epe.specs.Ident.{identifier, ident_of};
 
-use text::bytes::{are_letters_or_digits, byte_at, first, rest};
+use text::bytes::{are_letters_or_digits, byte_at, rest};
 
 // An identifier: 17 bytes with its length, zeros behind it.
 // Kept: 6a: "An identifier is held as 17 bytes with its length", compared and passed by value, and across the C interface.
@@ -43,12 +43,14 @@ pub fn ident_of(s: &[u8]) -> Ident
 }
 
 // The first 17 bytes of a text, with zeros where it has fewer.
-// Kept: 4b: it is the library's copy already, into an array that C has.
+// Kept: 4b: copy_from_slice calls memcpy where a length is not known, and the archive of the replay asks no more of the C library than memset.
 fn padded(s: &[u8]) -> [u8; 17]
     ensures { result ≡ take 17 (s.now ++ replicate 17 0) }
 {
     let mut bytes = [0; 17];
-    let held = first(s, 17);
-    bytes[..held.len()].copy_from_slice(held);
+    // Kept: 3c: of `array::from_fn` only single calls are known, and not the text that all of them read.
+    for i in 0..17 {
+        bytes[i] = byte_at(s, i);
+    }
     bytes
 }
