@@ -1,15 +1,16 @@
 -- Each call by an identifier acts on the first shipment of that identifier, and a transfer on the first of its title's name.
 -- Assumes nothing.
 use mathlib.Core.Path.{◌≡◌, refl, sym, subst, ◌∙◌}
-use mathlib.Core.Bool.{true, false, true≢false, false≢true}
-use mathlib.Core.List.{List, [], ◌∷◌}
+use mathlib.Core.Bool.{true, false}
+use mathlib.Core.List.{List}
 use Prim.Native.Nat.{ℕ}
-use Rattle.std.specs.Prelude.{Some, None}
-use Rattle.text.proofs.Branches.{either_way}
+use Rattle.std.specs.Prelude.{Result, Ok, Err}
+use Rattle.std.specs.Result.{result_or}
 use Rattle.money.specs.Money.{is_transfer}
-use Rattle.epe.specs.Questions.{Question, Verdict, Passed, Refused as No, first_no, is_passed, asked}
-use Rattle.epe.specs.Name.{title_questions, title_of, title_read}
+use Rattle.epe.specs.Questions.{Passed, Refused as No, first_no}
+use Rattle.epe.specs.Name.{title_questions, title_of, title_verdict, title_said}
 use Rattle.epe.specs.declared.name.Title.{Title}
+use Rattle.epe.specs.declared.name.NoTitle.{NoTitle}
 use Rattle.epe.specs.declared.ident.Ident.{Ident}
 use Rattle.epe.proofs.QuestionLaws.{asked_no, asked_yes, asked_none, asked_behind, asked_before}
 use Rattle.model.specs.Shipment.{Shipment}
@@ -23,40 +24,23 @@ pub seeks_called : (ident : Ident) (act : Act) → Seeks (called_in ident) (acte
 unfolding step shipment_in
 seeks_called ident act = record { called = is_called ident; by_head = λ head rows. refl; steps = λ book. refl; unread = refl }
 
-passed_is : (verdict : Verdict) → is_passed verdict ≡ true → verdict ≡ Passed
-unfolding is_passed
-passed_is Passed h = refl
-passed_is (No number) h = absurd (false≢true h)
+-- what a title was read as, where another refusal stands for what is none
+pub untitled : {E : Type 0} (read : Result Title NoTitle) (other : E) {e : E} → Err e ≡ result_or read (Err other) → (title_verdict read ≡ No 11) × (e ≡ other)
+untitled (Ok title) other told = let never : ⊥ = cc in absurd never
+untitled (Err none) other told = (refl, cc)
 
--- a title has one question, of the number 11
-one_refused : (q : Question) → is_passed (first_no (q ∷ [])) ≡ false → first_no (q ∷ []) ≡ No q.number
-unfolding asked is_passed
-one_refused q h = either_way q.yes? (λ passed. let never = rw passed at h in absurd (true≢false never)) (λ refused. rw refused)
-
-refused_eleven : (title : List ℕ) → is_passed (first_no (title_questions title)) ≡ false → first_no (title_questions title) ≡ No 11
-unfolding title_questions
-refused_eleven title h = one_refused _ h
-
--- what a title was read as tells whether it passed
-none_read : (title : List ℕ) → title_read title ≡ None → is_passed (first_no (title_questions title)) ≡ false
-unfolding title_read
-none_read title none = either_way (is_passed (first_no (title_questions title))) (λ passed. let never = rw passed at none in cc) (λ refused. refused)
-
-some_read : (title : List ℕ) (read : Title) → title_read title ≡ Some read → (is_passed (first_no (title_questions title)) ≡ true) × (read ≡ title_of title)
-unfolding title_read
-some_read title read some =
-    either_way (is_passed (first_no (title_questions title))) (λ passed. (passed, let same = rw passed at some in cc)) (λ refused. let never = rw refused at some in cc)
+pub titled : {E : Type 0} (read : Result Title NoTitle) (other : E) {title : Title} → Ok title ≡ result_or read (Err other)
+    → (title_verdict read ≡ Passed) × (title ≡ title_said read)
+titled (Ok title) other told = (refl, cc)
+titled (Err none) other told = let never : ⊥ = cc in absurd never
 
 -- "Title is a shipment name in the form above, then `-K` or `-O`? 11. Amount 1 to 9,999,999,999,999? 12."
 module _ (title : List ℕ) (amount : ℕ) where
-  pub title_refused : title_read title ≡ None → (book : Book) → step book (Transfer title amount) ≡ stay (Refused 11) book
+  pub title_refused : first_no (title_questions title) ≡ No 11 → (book : Book) → step book (Transfer title amount) ≡ stay (Refused 11) book
   unfolding step transferred_in
-  title_refused untitled book = asked_before (title_questions title) _ _ _ (refused_eleven title (none_read title untitled))
+  title_refused untitled book = asked_before (title_questions title) _ _ _ untitled
 
-  module _ {read : Title} (is_read : title_read title ≡ Some read) where
-    passed : first_no (title_questions title) ≡ Passed
-    passed = passed_is (first_no (title_questions title)) (some_read title read is_read).0
-
+  module _ (passed : first_no (title_questions title) ≡ Passed) where
     pub amount_refused : is_transfer amount ≡ false → (book : Book) → step book (Transfer title amount) ≡ stay (Refused 12) book
     unfolding step transferred_in
     amount_refused outside book = asked_behind (title_questions title) _ _ _ passed ∙ asked_no 12 _ _ _ outside
@@ -71,7 +55,7 @@ module _ (title : List ℕ) (amount : ℕ) where
       unread = refl;
     }
 
-    pub seeks_named : is_transfer amount ≡ true → Seeks (named_in read.name) (transferred read.money amount) (Transfer title amount)
-    seeks_named within =
-        subst (λ (one : Title). Seeks (named_in one.name) (transferred one.money amount) (Transfer title amount))
-        (sym (some_read title read is_read).1) (seeks_titled within)
+    pub seeks_named : {read : Title} → read ≡ title_of title → is_transfer amount ≡ true
+        → Seeks (named_in read.name) (transferred read.money amount) (Transfer title amount)
+    seeks_named is within =
+        subst (λ (one : Title). Seeks (named_in one.name) (transferred one.money amount) (Transfer title amount)) (sym is) (seeks_titled within)

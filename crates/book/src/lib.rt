@@ -75,7 +75,7 @@ pub fn transfer(memory: &mut [u8], title: &[u8], amount: u64) -> Result<(), Refu
     if !is_sound(memory) {
         return Err(Refusal::Unsound);
     }
-    let title = read_title(title).ok_or(Refusal::Title)?;
+    let title = read_title(title).or(Err(Refusal::Title))?;
     let sum = Sum::of_transfer(title.money, amount).ok_or(Refusal::TransferAmount)?;
     transfer_to(memory, title.name, sum)
 }

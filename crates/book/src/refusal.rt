@@ -3,7 +3,7 @@ ghost use Rattle.std.specs.Prelude.{◌≡◌};
 ghost use Rattle.book.specs.Refusal.{number_of};
 ghost use Rattle.book.specs.declared.refusal.IntakeRefusal.TheVariants.{File};
 
-use epe::refusal::Refusal;
+use epe::refusal::{Refusal, RefusedWith};
 
 // The question that is answered no: one of the file's own, or one that it is asked beside the book, in document 01's order.
 #[derive(Clone, Copy, PartialEq, Eq, Debug)]
@@ -29,6 +29,14 @@ impl From<Refusal> for IntakeRefusal {
 
     fn from(refusal: Refusal) -> IntakeRefusal {
         IntakeRefusal::File(refusal)
+    }
+}
+
+impl<T: Copy> From<RefusedWith<T>> for IntakeRefusal {
+    ghost from_gives = { λ refused intake_refusal. intake_refusal ≡ File refused.refusal };
+
+    fn from(refused: RefusedWith<T>) -> IntakeRefusal {
+        IntakeRefusal::File(refused.refusal)
     }
 }
 

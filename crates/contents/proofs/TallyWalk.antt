@@ -1,6 +1,6 @@
 -- The walk over a file's records: the tally and the table that are kept on the way.
 -- Assumes nothing.
-use mathlib.Core.Path.{◌≡◌, refl, sym, ◌∙◌}
+use mathlib.Core.Path.{◌≡◌, refl, sym, ap, ◌∙◌}
 use mathlib.Core.Bool.{Bool, true, false, cond, not, ◌&&◌}
 use mathlib.Core.List.{List, [], ◌∷◌, map}
 use Prim.Native.Nat.{ℕ, ◌+◌, ◌*◌, ◌^◌, ◌<◌, ◌≤◌}
@@ -10,7 +10,8 @@ use lib.Dec.{eqb, ltb, lit<}
 use lib.ListN.{length, set, length-set}
 use Rattle.text.specs.Bytes.{same, part}
 use Rattle.text.specs.Quoted.{bytes}
-use Rattle.std.specs.Prelude.{Some, None, is_some}
+use Rattle.std.specs.Prelude.{Some, None, is_some, Result, Ok, Err}
+use Rattle.std.specs.Result.{result_ok}
 use Rattle.std.specs.Option.{unwrap_or}
 use Rattle.text.specs.Number.{number}
 use Rattle.text.specs.Fields.{fields}
@@ -29,6 +30,7 @@ use Rattle.contents.specs.Kept.{Keepable, kept_code, kept_from}
 use Rattle.contents.specs.Inner.Tally.{record_read, added, SmallTally, Tallied}
 use Rattle.contents.specs.declared.tally.Tally.{Tally}
 use Rattle.contents.specs.declared.record.Order.{Order}
+use Rattle.contents.specs.declared.record.Misshaped.{Misshaped}
 use Rattle.contents.proofs.FaultLaws.{fault_known}
 
 -- a shaped record's number has at most six digits
@@ -62,6 +64,23 @@ pub record Going (fields : ℕ) (terms : Terms) (lines left : List (List ℕ)) (
   pub few : tally.count ≤ 999_999
   pub little : tally.sum ≤ tally.count * 2 ^ 30
   pub fewer : tally.faulty ≤ tally.count
+
+pub going_start : (fields : ℕ) (terms : Terms) (lines : List (List ℕ)) (tally : Tally) (kept : List ℕ)
+    → tally ≡ record { priced = true; charged = true; count = 0; sum = 0; faulty = 0 }
+    → Going fields terms lines lines tally kept kept
+going_start fields terms lines tally kept e = rw e (record {
+  shape = refl;
+  prices = refl;
+  charges = refl;
+  counted = omega arith;
+  summed = omega arith;
+  faults = omega arith;
+  keeping = refl;
+  as_long = refl;
+  few = omega arith;
+  little = omega arith;
+  fewer = omega arith;
+})
 
 one_at_most : (t : Bool) → cond t 0 1 ≤ 1
 one_at_most true = omega arith
@@ -124,21 +143,27 @@ going_end fields terms lines tally before kept going = record {
     and_yes false = refl
 
 -- What `read_record` says of a line, where a profile allows the number of fields.
-read_shaped : (r n : ℕ) (line : List ℕ) (order : Order) → r ≤ 32 → Some order ≡ record_read r n line → (shaped r n line ≡ true) × (order ≡ order_of line)
-unfolding record_read
-read_shaped r n line order h is = go (shaped r n line) (is ∙ rw (le-leb r 32 h))
-  where
-    go : (t : Bool) → Some order ≡ cond t (Some (order_of line)) None → (t ≡ true) × (order ≡ order_of line)
-    go true is = (refl, cc)
-    go false is = cc
+abbrev if_shaped : Bool → Order → Result Order Misshaped
+if_shaped shape order = cond shape (Ok order) (Err (record { order = order }))
 
-read_misshaped : (r n : ℕ) (line : List ℕ) → r ≤ 32 → None ≡ record_read r n line → shaped r n line ≡ false
-unfolding record_read
-read_misshaped r n line h is = go (shaped r n line) (is ∙ rw (le-leb r 32 h))
-  where
-    go : (t : Bool) → None ≡ cond t (Some (order_of line)) None → t ≡ false
-    go true is = cc
-    go false is = refl
+module _ (r n : ℕ) (line : List ℕ) (allowed : r ≤ 32) {read : Result Order Misshaped} (is : read ≡ record_read r n line) where
+  read_if : read ≡ if_shaped (shaped r n line) (order_of line)
+  unfolding record_read
+  read_if = is ∙ rw (le-leb r 32 allowed)
+
+  read_shaped : {order : Order} → Some order ≡ result_ok read → (shaped r n line ≡ true) × (order ≡ order_of line)
+  read_shaped {order} told = go (shaped r n line) (told ∙ ap result_ok read_if)
+    where
+      go : (t : Bool) → Some order ≡ result_ok (if_shaped t (order_of line)) → (t ≡ true) × (order ≡ order_of line)
+      go true is = (refl, cc)
+      go false is = cc
+
+  read_misshaped : None ≡ result_ok read → shaped r n line ≡ false
+  read_misshaped told = go (shaped r n line) (told ∙ ap result_ok read_if)
+    where
+      go : (t : Bool) → None ≡ result_ok (if_shaped t (order_of line)) → t ≡ false
+      go true is = cc
+      go false is = refl
 
 -- a turn of the walk: the line at a place is read, its order kept, and the next place reached
 pub record Turn (fields : ℕ) (terms : Terms) (s : List ℕ) (from at : ℕ) (tally : Tally) (before kept : List ℕ) (order : Order) (end : ℕ) : Type 0 where
@@ -155,10 +180,11 @@ module _ (fields : ℕ) (terms : Terms) (s : List ℕ) (from at : ℕ) (tally : 
   on_line : Going fields terms (lines_from from s) (line ∷ lines_from (next_line at s) s) tally before kept
   on_line = let here_is : lines_from at s ≡ line ∷ lines_from (next_line at s) s = rw (lined, ends) (walk_on s at inside) in rw here_is at going
 
-  pub turn_of : (order : Order) → Some order ≡ record_read fields (tally.count + 1) line → Turn fields terms s from at tally before kept order end
+  pub turn_of : (order : Order) {read : Result Order Misshaped} → read ≡ record_read fields (tally.count + 1) line → Some order ≡ result_ok read
+      → Turn fields terms s from at tally before kept order end
   unfolding next_line order_of
-  turn_of order told =
-      let read = read_shaped fields (tally.count + 1) line order allowed told in
+  turn_of order is told =
+      let read = read_shaped fields (tally.count + 1) line allowed is told in
       let bound : order.amount.0 ≤ order_cap = rw read.1 (order_text_bound (field 3 line)) in
       record {
         small = record { few = going.few; little = going.little; fewer = going.fewer; bounded = bound };
@@ -172,7 +198,8 @@ module _ (fields : ℕ) (terms : Terms) (s : List ℕ) (from at : ℕ) (tally : 
       }
 
   -- the tally of lines that are not all shaped
-  pub tallied_misshaped : None ≡ record_read fields (tally.count + 1) line → Tallied fields terms (lines_from from s) None before kept
-  tallied_misshaped told =
-      let settled = going_misshaped fields terms (lines_from from s) (lines_from (next_line at s) s) line tally before kept on_line (read_misshaped fields (tally.count + 1) line allowed told) in
+  pub tallied_misshaped : {read : Result Order Misshaped} → read ≡ record_read fields (tally.count + 1) line → None ≡ result_ok read
+      → Tallied fields terms (lines_from from s) None before kept
+  tallied_misshaped is told =
+      let settled = going_misshaped fields terms (lines_from from s) (lines_from (next_line at s) s) line tally before kept on_line (read_misshaped fields (tally.count + 1) line allowed is told) in
       record { shape = sym settled.0; totals = tt; kept = settled.1 }

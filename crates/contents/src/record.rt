@@ -1,5 +1,5 @@
 // Record lines, an order each: whether a line has the shape of a record, its amount, and its first fault.
-ghost use Rattle.std.specs.Prelude.{◌≡◌, ◌&&◌, not, eqb, leb, length, is_some, IfSome};
+ghost use Rattle.std.specs.Prelude.{◌≡◌, ◌&&◌, not, eqb, leb, length, is_some};
 ghost use Rattle.std.specs.Option.{unwrap_or};
 ghost use Rattle.text.specs.Number.{number};
 ghost use Rattle.text.specs.Bytes.{same};
@@ -8,7 +8,7 @@ ghost use Rattle.money.specs.Money.{WithinOrder};
 ghost use Rattle.epe.specs.File.{field};
 ghost use Rattle.contents.specs.Faults.{fault_of};
 ghost use Rattle.contents.specs.Contents.{shaped, amount_in, order_of};
-ghost use Rattle.contents.specs.Inner.Tally.{record_read};
+ghost use Rattle.contents.specs.Inner.Tally.{record_read, order_said};
 
 use crate::faults::{Record, number_of};
 use epe::line::Line;
@@ -24,17 +24,24 @@ pub struct Order {
     pub fault: u64,
 }
 
-// The order of a line that is to be record n, in so many fields, if it has that shape.
+// What a line says that is not in shape: an order all the same.
+#[derive(Clone, Copy, PartialEq, Eq, Debug)]
+pub struct Misshaped {
+    pub order: Order,
+}
+
+// The order of a line that is to be record n, in so many fields, also where it has not that shape.
 #[tactic(auto, using(text::proofs::Branches::branches), unfolding(crate::specs::Inner::Tally::record_read))]
-pub fn read_record(line: &[u8], fields: u64, n: u64) -> Option<Order>
+pub fn read_record(line: &[u8], fields: u64, n: u64) -> Result<Order, Misshaped>
     ensures value { result ≡ record_read fields n line.now }
-    ensures within { IfSome result (λ order. WithinOrder order.amount.0) }
+    ensures within { WithinOrder (order_said result).amount.0 }
 {
     let line = Line::of(line);
+    let order = order_of(&line);
     if !is_shaped(&line, fields, n) {
-        return None;
+        return Err(Misshaped { order });
     }
-    Some(order_of(&line))
+    Ok(order)
 }
 
 // Has a line the shape of record n, in so many fields? Never in more than 32.

@@ -1,11 +1,11 @@
 // What the header states: the questions 905, 907 and 102 to 131, and the number of orders, the sum and the kind that it gives.
-ghost use Rattle.std.specs.Prelude.{◌≡◌, ◌&&◌, ◌≤◌, eqb, leb, ltb, length, take, drop, is_some, IfOk};
+ghost use Rattle.std.specs.Prelude.{◌≡◌, ◌&&◌, ◌≤◌, eqb, leb, ltb, length, take, drop, is_some};
 ghost use Rattle.text.specs.Bytes.{letters_or_digits};
 ghost use Rattle.text.specs.Number.{number};
 ghost use Rattle.money.specs.Text.{sum_text};
 ghost use Rattle.calendar.specs.Reading.{date_of_digits, date_in_window};
 ghost use Rattle.calendar.specs.Time.{time_of_day};
-ghost use Rattle.epe.specs.Questions.{first_no, verdict_of};
+ghost use Rattle.epe.specs.Questions.{first_no, verdict_of, verdict_beside, read_of};
 ghost use Rattle.epe.specs.File.{header, field};
 ghost use Rattle.contents.specs.Contents.{date_questions, stated_count, stated_sum, stated_questions, header_questions, stated_kind};
 ghost use Rattle.contents.specs.Steps.{stated_in, stated_of};
@@ -15,9 +15,9 @@ use calendar::time::is_time;
 use epe::file::header_of;
 use epe::line::Line;
 use epe::profile::{KINDS, Profile, judge_profile, terms_of};
-use epe::refusal::Refusal;
+use epe::refusal::{Refusal, RefusedWith, read_beside};
 use fee::Terms;
-use money::Amount;
+use money::{Amount, Grosze};
 use text::bytes::{are_letters_or_digits, first, rest};
 use text::number;
 
@@ -29,18 +29,38 @@ pub struct Stated {
     pub terms: Terms,
 }
 
-// What the header states of the records, where a profile and it pass the questions 905, 907 and 102 to 131.
-#[tactic(auto, using(epe::proofs::Asking::join_no, epe::proofs::Asking::join_yes), unfolding(crate::specs::Steps::stated_of, crate::specs::Steps::stated_in))]
-pub fn judge_stated(profile: Profile, file: &[u8]) -> Result<Stated, Refusal>
-    ensures verdict { verdict_of result ≡ first_no (header_questions profile (header file.now)) }
-    ensures stated { IfOk result (λ stated. stated ≡ stated_of profile file.now) }
+// The questions 905, 907 and 102 to 131 of a profile and the header, and what the header states of the records.
+#[tactic(auto, unfolding(crate::specs::Steps::stated_of))]
+pub fn judge_stated(profile: Profile, file: &[u8]) -> Result<Stated, RefusedWith<Stated>>
+    ensures verdict { verdict_beside result ≡ first_no (header_questions profile (header file.now)) }
+    ensures stated { read_of result ≡ stated_of profile file.now }
+{
+    let line = Line::of(header_of(file));
+    let judged = judge_header(profile, &line);
+    let stated = read_stated(profile, &line);
+    read_beside(stated, judged)
+}
+
+// The first of the questions 905, 907 and 102 to 131 that is answered no.
+#[tactic(auto, using(epe::proofs::Asking::join_no, epe::proofs::Asking::join_yes))]
+fn judge_header(profile: Profile, line: &Line<'_>) -> Result<(), Refusal>
+    ensures { verdict_of result ≡ first_no (header_questions profile line.now.text.now) }
 {
     judge_profile(profile)?;
-    let line = Line::of(header_of(file));
-    judge_dates(&line, profile.today)?;
-    let (count, sum) = read_count_and_sum(&line)?;
-    let terms = terms_of(profile, stated_kind(&line));
-    Ok(Stated { count, sum, terms })
+    judge_dates(line, profile.today)?;
+    judge_count_and_sum(line)
+}
+
+// What a header states: how many orders, their sum in grosze, and the terms that the profile sets.
+#[tactic(auto, using(money::proofs::Reading::amount_or_none), unfolding(crate::specs::Steps::stated_in))]
+fn read_stated(profile: Profile, line: &Line<'_>) -> Stated
+    ensures { result ≡ stated_in profile line.now.text.now }
+{
+    Stated {
+        count: number::read(line.nth(11), 1, 6).unwrap_or(0),
+        sum: Amount::read_sum(line.nth(12)).unwrap_or(Amount::sum(0)).0,
+        terms: terms_of(profile, stated_kind(line)),
+    }
 }
 
 // The questions 102 to 125.
@@ -93,11 +113,10 @@ fn is_unit(line: &Line<'_>) -> bool
     s.len() == 6 && are_letters_or_digits(s)
 }
 
-// How many orders the header states, and their sum in grosze: the questions 126 to 131.
+// The questions 126 to 131.
 #[tactic(auto, using(epe::proofs::Asking::asking, crate::proofs::Stating::stating), unfolding(crate::specs::Contents::stated_questions))]
-fn read_count_and_sum(line: &Line<'_>) -> Result<(u64, u64), Refusal>
-    ensures verdict { verdict_of result ≡ first_no (stated_questions line.now.text.now) }
-    ensures stated { IfOk result (λ stated. (stated.0 ≡ stated_count line.now.text.now) × (stated.1 ≡ stated_sum line.now.text.now)) }
+fn judge_count_and_sum(line: &Line<'_>) -> Result<(), Refusal>
+    ensures { verdict_of result ≡ first_no (stated_questions line.now.text.now) }
 {
     let Some(count) = number::read(line.nth(11), 1, 6) else {
         return Err(Refusal::Count);
@@ -111,7 +130,7 @@ fn read_count_and_sum(line: &Line<'_>) -> Result<(u64, u64), Refusal>
     if sum.0 == 0 {
         return Err(Refusal::SumZero);
     }
-    Ok((count, sum.0))
+    Ok(())
 }
 
 // The kind that the header states; what is no digit is none.

@@ -47,7 +47,7 @@ pub fn tally_records(
     // Kept: 3b: a line starts where the one before it was found to end, and no iterator of the library parts a text at CR LF.
     while at <= s.len() {
         let end = line_end(s, at);
-        let order = read_record(slice(s, at, end), fields, tally.count + 1)?;
+        let order = read_record(slice(s, at, end), fields, tally.count + 1).ok()?;
         keep(kept, tally.count, order);
         tally = with_order(terms, tally, order);
         at = after_line(s, end);

@@ -12,17 +12,22 @@ use lib.Seq.{take-append-add, drop-append-add}
 use Rattle.text.specs.Bytes.{same}
 use Rattle.text.specs.Quoted.{bytes}
 use Rattle.text.specs.Fields.{fields, onto, cut_count}
-use Rattle.text.proofs.Branches.{and_left, and_right, second_no, cond_either, either_way}
+use Rattle.text.proofs.Branches.{and_left, and_right, cond_either, either_way}
 use Rattle.text.proofs.FieldsByCuts.{count_of_fields}
 use Rattle.text.proofs.Same.{same_equal}
-use Rattle.std.specs.Prelude.{Some, None}
+use Rattle.std.specs.Prelude.{Option, Some, None, is_some, Result, Ok, Err}
+use Rattle.std.specs.Option.{unwrap_or}
+use Rattle.std.specs.Result.{is_ok}
 use Rattle.money.specs.declared.Money.{Money}
 use Rattle.money.specs.declared.Money.TheVariants.{K, O}
-use Rattle.epe.specs.Questions.{Passed, Refused, ◌else_no◌, asked, first_no, is_passed}
-use Rattle.epe.specs.Name.{name_part, name_questions, name_of, has_long_date, short_title, title_name, title_ending, title_questions, title_of, title_read, long_title, LongMeansShort}
+use Rattle.epe.specs.Questions.{Verdict, Passed, Refused, asked, first_no, is_passed, verdict_of}
+use Rattle.epe.specs.Name.{name_part, name_questions, name_of, has_long_date, short_title, title_name, title_ending, title_questions, title_of, long_title, LongMeansShort}
 use Rattle.epe.specs.Inner.Ending.{ending_money}
-use Rattle.epe.specs.declared.name.Name.{Name}
 use Rattle.epe.specs.Inner.Dated.{Dated, dated_questions, dated_name}
+use Rattle.epe.specs.declared.name.Name.{Name}
+use Rattle.epe.specs.declared.name.Title.{Title}
+use Rattle.epe.specs.declared.refusal.Refusal.{Refusal}
+use Rattle.epe.proofs.QuestionLaws.{asked_no, asked_yes, asked_none}
 
 -- a byte before the first of some parts
 onto_first : (b : ℕ) (parts : List (List ℕ)) → get_or (onto b parts) 0 [] ≡ b ∷ get_or parts 0 []
@@ -305,48 +310,46 @@ pub long_means_short : LongMeansShort
 unfolding title_of title_questions
 long_means_short title six = let same = long_of_six title six in (rw same refl, rw same refl)
 
--- a title is read where its name passes and its ending names a money
-asked_alone : (t : Bool) (n : ℕ) → is_passed (first_no ((t else_no n) ∷ [])) ≡ t
-unfolding asked is_passed
-asked_alone true n = refl
-asked_alone false n = refl
+-- a title is one where its name passes and its ending names a money
+pub passes : {A : Type 0} (judged : Result A Refusal) (ok passed : Bool) → ok ≡ is_ok judged → ok ≡ passed → is_passed (verdict_of judged) ≡ passed
+unfolding is_passed
+passes (Ok a) ok passed is told = sym is ∙ told
+passes (Err refusal) ok passed is told = sym is ∙ told
 
 abbrev is_ending : List ℕ → Bool
 is_ending ending = same ending (bytes "-K") || same ending (bytes "-O")
 
-ends_in_none : (ending : List ℕ) → None ≡ ending_money ending → is_ending ending ≡ false
+ends : (ending : List ℕ) → is_some (ending_money ending) ≡ is_ending ending
 unfolding ending_money
-ends_in_none ending h = go (same ending (bytes "-K")) (same ending (bytes "-O")) h
+ends ending = go (same ending (bytes "-K")) (same ending (bytes "-O"))
   where
-    go : (k o : Bool) → None ≡ cond k (Some K) (cond o (Some O) None) → (k || o) ≡ false
-    go true o h = cc
-    go false true h = cc
-    go false false h = refl
+    go : (k o : Bool) → is_some (cond k (Some K) (cond o (Some O) None)) ≡ (k || o)
+    go true o = refl
+    go false true = refl
+    go false false = refl
 
-ends_in_one : (ending : List ℕ) (money : Money) → Some money ≡ ending_money ending → (is_ending ending ≡ true) × (money ≡ cond (same ending (bytes "-K")) K O)
+ends_in : (ending : List ℕ) → unwrap_or (ending_money ending) O ≡ cond (same ending (bytes "-K")) K O
 unfolding ending_money
-ends_in_one ending money h = go (same ending (bytes "-K")) (same ending (bytes "-O")) h
+ends_in ending = go (same ending (bytes "-K")) (same ending (bytes "-O"))
   where
-    go : (k o : Bool) → Some money ≡ cond k (Some K) (cond o (Some O) None) → ((k || o) ≡ true) × (money ≡ cond k K O)
-    go true o h = (refl, cc)
-    go false true h = (refl, cc)
-    go false false h = cc
+    go : (k o : Bool) → unwrap_or (cond k (Some K) (cond o (Some O) None)) O ≡ cond k K O
+    go true o = refl
+    go false true = refl
+    go false false = refl
 
-module _ (title : List ℕ) where
-  pub no_money : None ≡ ending_money (title_ending title) → None ≡ title_read title
-  unfolding title_read title_questions
-  no_money none =
-      rw (asked_alone (is_passed (first_no (name_questions (title_name title))) && is_ending (title_ending title)) 11, ends_in_none (title_ending title) none, second_no (is_passed (first_no (name_questions (title_name title)))) false refl)
+module _ (title : List ℕ) {name date : List ℕ} (dated : Dated name date (title_name title)) {money : Option Money} (ending : money ≡ ending_money (title_ending title)) where
+  module _ {verdict : Verdict} (named : verdict ≡ first_no (dated_questions name date)) {titled : Bool} (is : titled ≡ (is_passed verdict && is_some money)) where
+    asked_alike : titled ≡ (is_passed (first_no (name_questions (title_name title))) && is_ending (title_ending title))
+    asked_alike = is ∙ rw (named, same_verdict dated, ending, ends (title_ending title))
 
-  module _ {name date : List ℕ} (dated : Dated name date (title_name title)) where
-    pub no_name : (n : ℕ) → Refused n ≡ first_no (dated_questions name date) → None ≡ title_read title
-    unfolding title_read title_questions is_passed
-    no_name n refused =
-        rw (asked_alone (is_passed (first_no (name_questions (title_name title))) && is_ending (title_ending title)) 11, sym (refused ∙ same_verdict dated))
+    pub no_title : titled ≡ false → Refused 11 ≡ first_no (title_questions title)
+    unfolding title_questions
+    no_title untitled = sym (asked_no 11 _ _ _ (sym asked_alike ∙ untitled))
 
-    pub title_is : (money : Money) (parts : Name) → Some money ≡ ending_money (title_ending title) → Passed ≡ first_no (dated_questions name date)
-        → parts ≡ dated_name name date → Some (record { name = parts; money = money }) ≡ title_read title
-    unfolding title_read title_questions title_of is_passed
-    title_is money parts named passed is =
-        let ends = ends_in_one (title_ending title) money named in
-        rw (asked_alone (is_passed (first_no (name_questions (title_name title))) && is_ending (title_ending title)) 11, sym (passed ∙ same_verdict dated), ends.0, is, same_name dated, ends.1)
+    pub a_title : titled ≡ true → Passed ≡ first_no (title_questions title)
+    unfolding title_questions
+    a_title titled = sym (asked_yes 11 _ _ _ (sym asked_alike ∙ titled) ∙ asked_none _ _)
+
+  pub said_is : {one : Money} {parts : Name} → one ≡ unwrap_or money O → parts ≡ dated_name name date → ◌≡◌ {A = Title} (record { name = parts; money = one }) (title_of title)
+  unfolding title_of
+  said_is is are = rw (is, ending, ends_in (title_ending title), are, same_name dated)

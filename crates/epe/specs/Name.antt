@@ -1,5 +1,5 @@
 -- "The name is `EPEZ` + identifier, yymmdd, A or B, kind 0 to 4, joined by hyphens." And the title of a transfer.
-use Rattle.std.specs.Prelude.{◌≡◌, Bool, true, cond, ◌&&◌, ◌||◌, List, [], ◌∷◌, ◌++◌, ℕ, ◌+◌, ◌-◌, eqb, leb, length, get_or, take, drop, is_some, Option, Some, None}
+use Rattle.std.specs.Prelude.{◌≡◌, Bool, true, cond, ◌&&◌, ◌||◌, List, [], ◌∷◌, ◌++◌, ℕ, ◌+◌, ◌-◌, eqb, leb, length, get_or, take, drop, is_some, Result, Ok, Err}
 use Rattle.text.specs.Bytes.{same}
 use Rattle.text.specs.Quoted.{bytes}
 use Rattle.std.specs.Option.{unwrap_or}
@@ -7,10 +7,11 @@ use Rattle.text.specs.Number.{number}
 use Rattle.text.specs.Fields.{fields}
 use Rattle.money.specs.declared.Money.TheVariants.{K, O}
 use Rattle.calendar.specs.Calendar.{real}
-use Rattle.epe.specs.Questions.{Question, ◌else_no◌, Passed, first_no, is_passed}
+use Rattle.epe.specs.Questions.{Question, ◌else_no◌, Verdict, Passed, Refused, first_no, is_passed}
 use Rattle.epe.specs.Ident.{identifier, ident_of, ident_in_form}
 use Rattle.epe.specs.declared.name.Name.{Name}
 use Rattle.epe.specs.declared.name.Title.{Title}
+use Rattle.epe.specs.declared.name.NoTitle.{NoTitle}
 
 -- Part n of a name, counted from 1. A hyphen is the byte 2D.
 abbrev pub name_part : ℕ → List ℕ → List ℕ
@@ -89,13 +90,18 @@ title_questions title =
     else_no 11)
     ∷ []
 
--- What a title says: the name and the money.
+-- What a title says, and what is none all the same: the name and the money.
 unfoldable pub title_of : List ℕ → Title
 title_of title = record { name = name_of (title_name title); money = cond (same (title_ending title) (bytes "-K")) K O }
 
--- The same, if it is a title.
-unfoldable pub title_read : List ℕ → Option Title
-title_read title = cond (is_passed (first_no (title_questions title))) (Some (title_of title)) None
+-- What code answers, with the paper's number for what is no title; and what the title says, or what is none.
+abbrev pub title_verdict : Result Title NoTitle → Verdict
+title_verdict (Ok title) = Passed
+title_verdict (Err none) = Refused 11
+
+abbrev pub title_said : Result Title NoTitle → Title
+title_said (Ok title) = title
+title_said (Err none) = none.said
 
 -- A title with `20` before its date says what it says without: "`20` and a name's six mean what the six alone would".
 abbrev pub long_title : List ℕ → List ℕ

@@ -2,6 +2,7 @@
 use Rattle.std.specs.Prelude.{◌≡◌, Bool, true, false, cond, List, [], ◌∷◌, ◌++◌, ℕ, Result, Ok, Err}
 use Rattle.epe.specs.Refusal.{number_of}
 use Rattle.epe.specs.declared.refusal.Refusal.{Refusal}
+use Rattle.epe.specs.declared.refusal.RefusedWith.{RefusedWith}
 
 infix 20 ◌else_no◌
 -- A question's answer, and the number that a "no" gives.
@@ -33,6 +34,15 @@ is_passed (Refused n) = false
 abbrev pub verdict_of : {A : Type 0} → Result A Refusal → Verdict
 verdict_of (Ok a) = Passed
 verdict_of (Err refusal) = Refused (number_of refusal)
+
+-- The same of code that tells what it read beside a refusal too; and what it read.
+abbrev pub verdict_beside : {A : Type 0} → Result A (RefusedWith A) → Verdict
+verdict_beside (Ok read) = Passed
+verdict_beside (Err refused) = Refused (number_of refused.refusal)
+
+abbrev pub read_of : {A : Type 0} → Result A (RefusedWith A) → A
+read_of (Ok read) = read
+read_of (Err refused) = refused.read
 
 -- Every question of a list is answered yes.
 abbrev pub AllYes : List Question → Type 0

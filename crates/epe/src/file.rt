@@ -1,7 +1,7 @@
 // The opening of an order file: the file itself, its name, and the header's fields that the name repeats.
-ghost use Rattle.std.specs.Prelude.{◌≡◌, ◌&&◌, IfOk};
+ghost use Rattle.std.specs.Prelude.{◌≡◌, ◌&&◌};
 ghost use Rattle.text.specs.Utf8.{well_formed};
-ghost use Rattle.epe.specs.Questions.{first_no, verdict_of};
+ghost use Rattle.epe.specs.Questions.{first_no, verdict_of, verdict_beside, read_of};
 ghost use Rattle.epe.specs.Name.{name_of};
 ghost use Rattle.epe.specs.File.{marked, text, header};
 ghost use Rattle.epe.specs.Opening.{file_questions, opening};
@@ -9,22 +9,29 @@ ghost use Rattle.epe.specs.Inner.Walk.{body};
 
 use crate::header::judge_header;
 use crate::name::{Name, Parts, judge_name, name_of};
-use crate::refusal::Refusal;
+use crate::refusal::{Refusal, RefusedWith, read_beside};
 use text::bytes::{first, rest};
 use text::lines::{line_end, without_last_end};
 
-// The questions 001 to 023 of a file: its name's parts, which are in form, or the first that is answered no.
+// The questions 001 to 023 of a file, and its name's parts, which are in form where none is answered no.
 // Kept: 5b: a name and a file are two texts of an intake, as the C interface lends them.
+pub fn open(name: &[u8], file: &[u8]) -> Result<Name, RefusedWith<Name>>
+    ensures verdict { verdict_beside result ≡ opening name.now file.now }
+    ensures parts { read_of result ≡ name_of name.now }
+{
+    let parts = Parts::of(name);
+    let judged = judge_opening(&parts, file);
+    read_beside(name_of(&parts), judged)
+}
+
+// The first of the questions 001 to 023 that is answered no.
 #[tactic(auto, using(crate::proofs::Asking::join_no, crate::proofs::Asking::join_yes), unfolding(crate::specs::Opening::opening, crate::specs::Opening::opening_questions))]
-pub fn open(name: &[u8], file: &[u8]) -> Result<Name, Refusal>
-    ensures verdict { verdict_of result ≡ opening name.now file.now }
-    ensures parts { IfOk result (λ parts. parts ≡ name_of name.now) }
+fn judge_opening(name: &Parts<'_>, file: &[u8]) -> Result<(), Refusal>
+    ensures { verdict_of result ≡ opening name.now.text.now file.now }
 {
     judge_file(file)?;
-    let parts = Parts::of(name);
-    judge_name(&parts)?;
-    judge_header(&parts, header_of(file))?;
-    Ok(name_of(&parts))
+    judge_name(name)?;
+    judge_header(name, header_of(file))
 }
 
 // The file's text without the byte mark and without one CR LF at its very end.

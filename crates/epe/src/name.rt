@@ -6,9 +6,9 @@ ghost use Rattle.text.specs.Quoted.{bytes};
 ghost use Rattle.text.specs.Number.{number};
 ghost use Rattle.text.specs.Fields.{fields};
 ghost use Rattle.calendar.specs.Calendar.{real};
-ghost use Rattle.epe.specs.Questions.{first_no, verdict_of};
+ghost use Rattle.epe.specs.Questions.{first_no, is_passed, verdict_of};
 ghost use Rattle.epe.specs.Ident.{identifier};
-ghost use Rattle.epe.specs.Name.{name_part, name_ident, name_questions, name_of, title_name, title_read};
+ghost use Rattle.epe.specs.Name.{name_part, name_ident, name_questions, name_of, title_name, title_of, title_questions, title_verdict, title_said};
 ghost use Rattle.epe.specs.Inner.Ending.{ending_money};
 ghost use Rattle.epe.specs.Inner.Dated.{Dated, dated_questions, dated_name};
 
@@ -40,6 +40,20 @@ pub struct Title {
     pub money: Money,
 }
 
+// What is no title, which is 11, with what it says all the same.
+#[derive(Clone, Copy, PartialEq, Eq, Debug)]
+pub struct NoTitle {
+    pub said: Title,
+}
+
+impl From<NoTitle> for u64 {
+    ghost from_gives = { λ none number. number ≡ 11 };
+
+    fn from(_none: NoTitle) -> u64 {
+        11
+    }
+}
+
 // The first question of a name that is answered no.
 #[tactic(auto, unfolding(crate::specs::Name::name_questions, crate::specs::Inner::Dated::dated_questions))]
 pub fn judge_name(name: &Parts<'_>) -> Result<(), Refusal>
@@ -56,20 +70,32 @@ pub fn name_of(name: &Parts<'_>) -> Name
     read_parts(name, name.nth(2))
 }
 
-// What a title says, if it is one.
-#[tactic(auto, using(crate::proofs::TitleLaws::no_money, crate::proofs::TitleLaws::no_name, crate::proofs::TitleLaws::title_is, crate::proofs::TitleLaws::ending_kept))]
-pub fn read_title(title: &[u8]) -> Option<Title>
-    ensures { result ≡ title_read title.now }
+// What a title says, also where it is none.
+#[tactic(auto, using(crate::proofs::TitleLaws::ending_kept, crate::proofs::TitleLaws::no_title, crate::proofs::TitleLaws::a_title, crate::proofs::TitleLaws::said_is))]
+pub fn read_title(title: &[u8]) -> Result<Title, NoTitle>
+    ensures verdict { title_verdict result ≡ first_no (title_questions title.now) }
+    ensures said { title_said result ≡ title_of title.now }
 {
     let ending = rest(title, ending_at(title));
     let name = Parts::of(first(title, ending_at(title)));
     let date = title_date(title, &name);
-    let money = money_of(ending)?;
-    judge_parts(&name, date).ok()?;
-    Some(Title {
+    let money = money_of(ending);
+    let said = Title {
         name: read_parts(&name, date),
-        money,
-    })
+        money: money.unwrap_or(Money::O),
+    };
+    if !is_title(judge_parts(&name, date), money) {
+        return Err(NoTitle { said });
+    }
+    Ok(said)
+}
+
+// Is it a title: did its name's questions come to no refusal, and does its ending name a money?
+#[tactic(auto, using(text::proofs::Branches::branches, crate::proofs::TitleLaws::passes))]
+fn is_title(named: Result<(), Refusal>, money: Option<Money>) -> bool
+    ensures { result ≡ (is_passed (verdict_of named) && is_some money) }
+{
+    named.is_ok() && money.is_some()
 }
 
 // The first question that is answered no of a name with this second part.

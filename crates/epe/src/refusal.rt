@@ -1,5 +1,6 @@
 // Why an order file is refused.
 ghost use Rattle.std.specs.Prelude.{◌≡◌};
+ghost use Rattle.epe.specs.Questions.{verdict_of, verdict_beside, read_of};
 ghost use Rattle.epe.specs.Refusal.{number_of};
 
 // The question that is answered no, with its number. They stand in the order in which an intake asks them.
@@ -106,6 +107,24 @@ pub enum Refusal {
 
     // Every order's fee at most 999,999,999?
     RecordFee = 906,
+}
+
+// A refusal, and what was read all the same.
+#[derive(Clone, Copy, PartialEq, Eq, Debug)]
+pub struct RefusedWith<T> {
+    pub refusal: Refusal,
+    pub read: T,
+}
+
+// What was read where some questions came to this: beside the refusal, if there is one.
+pub fn read_beside<T>(read: T, judged: Result<(), Refusal>) -> Result<T, RefusedWith<T>>
+    ensures verdict { verdict_beside result ≡ verdict_of judged }
+    ensures read { read_of result ≡ read }
+{
+    match judged {
+        Ok(()) => Ok(read),
+        Err(refusal) => Err(RefusedWith { refusal, read }),
+    }
 }
 
 impl From<Refusal> for u64 {

@@ -1,5 +1,5 @@
 -- What one look at a record line tells, and the tally that a walk over the records keeps.
-use Rattle.std.specs.Prelude.{◌≡◌, cond, ◌&&◌, List, [], ◌∷◌, map, ℕ, ◌+◌, ◌*◌, ◌^◌, ◌≤◌, eqb, leb, ltb, length, Option, Some, None, is_some, IfSome}
+use Rattle.std.specs.Prelude.{◌≡◌, cond, ◌&&◌, List, [], ◌∷◌, map, ℕ, ◌+◌, ◌*◌, ◌^◌, ◌≤◌, eqb, leb, ltb, length, Option, Some, None, is_some, IfSome, Result, Ok, Err}
 use Rattle.money.specs.Money.{is_order_fee, WithinOrder}
 use Rattle.fee.specs.Fee.{fee_of}
 use Rattle.fee.specs.declared.Terms.{Terms}
@@ -8,11 +8,17 @@ use Rattle.contents.specs.Contents.{shaped, all_shaped, all_priced, all_charged,
 use Rattle.contents.specs.Kept.{kept_from}
 use Rattle.contents.specs.declared.tally.Tally.{Tally}
 use Rattle.contents.specs.declared.record.Order.{Order}
+use Rattle.contents.specs.declared.record.Misshaped.{Misshaped}
 
--- The order of a line that has the shape of record n.
+-- The order of a line that is to be record n, also where it has not that shape.
 -- No profile asks for more than 32 fields; for more the answer is that the line is not in shape.
-unfoldable pub record_read : ℕ → ℕ → List ℕ → Option Order
-record_read r n line = cond (leb r 32 && shaped r n line) (Some (order_of line)) None
+unfoldable pub record_read : ℕ → ℕ → List ℕ → Result Order Misshaped
+record_read r n line = cond (leb r 32 && shaped r n line) (Ok (order_of line)) (Err (record { order = order_of line }))
+
+-- The order that was read, in shape or not.
+abbrev pub order_said : Result Order Misshaped → Order
+order_said (Ok order) = order
+order_said (Err misshaped) = misshaped.order
 
 -- One order more, on the terms of its fee.
 unfoldable pub added : Terms → Tally → Order → Tally

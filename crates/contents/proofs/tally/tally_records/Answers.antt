@@ -12,13 +12,13 @@ turn : (c : In_ok-order)
     Turn start.fields start.terms start.s.now start.from here.at here.tally start.kept.now here.kept c.in_ok-order.order c.line_end-end.result
 turn c =
     let here = c.loop-at in
-    turn_of _ _ _ _ here.at here.tally _ _ _ _ (omega arith) (omega arith) here.invariant c.line_end-end.ensures c.slice.ensures c.in_ok-order.order c.in_ok-order.ensures.value
+    turn_of _ _ _ _ here.at here.tally _ _ _ _ (omega arith) (omega arith) here.invariant c.line_end-end.ensures c.slice.ensures c.in_ok-order.order c.read_record.ensures.value c.in_ok-order.ensures.value
 
 pub returns-in_err-order : goal.returns-in_err-order
 returns-in_err-order c =
     let here = c.loop-at in
     rw c.from_residual.ensures
-    (tallied_misshaped _ _ _ _ here.at here.tally _ _ _ _ (omega arith) (omega arith) here.invariant c.line_end-end.ensures c.slice.ensures c.in_err-order.ensures.value)
+    (tallied_misshaped _ _ _ _ here.at here.tally _ _ _ _ (omega arith) (omega arith) here.invariant c.line_end-end.ensures c.slice.ensures c.read_record.ensures.value c.in_err-order.ensures.value)
 
 pub keep-requires : goal.keep-requires
 keep-requires c = (turn (goal.at.keep-requires c).In_ok-order).keepable
