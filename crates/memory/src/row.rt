@@ -4,7 +4,7 @@ ghost use Rattle.model.specs.Shipment.{most_rows, worth};
 ghost use Rattle.model.specs.declared.Row.{Row};
 ghost use Rattle.memory.specs.Layout.{IsMemory, IsRow, row_bytes};
 ghost use Rattle.memory.specs.States.{state_of};
-ghost use Rattle.memory.specs.Rows.{row_of};
+ghost use Rattle.memory.specs.Rows.{code_in, row_of};
 ghost use Rattle.memory.specs.Inner.Stored.{code_of, with_code_at, RowStored};
 
 use crate::number::{read, store};
@@ -70,13 +70,10 @@ impl<'a> LentRow<'a> {
     }
 
     // Its byte of state.
-    // Kept: 6b: a column of the rows, which are faster in columns (docs/DECISIONS.md).
-    #[tactic(auto, using(crate::proofs::RowLaws::code_in_lem), unfolding(crate::specs::Rows::row_of))]
     pub fn code(&self) -> Code
         ensures { (state_of result.0 ≡ self.now.state) × (result.0 < 256) }
     {
-        let code = self.memory[STATES + self.k];
-        Code(code)
+        Memory::lent(self.memory).code(self.k)
     }
 
     // Its state.
@@ -88,6 +85,17 @@ impl<'a> LentRow<'a> {
 }
 
 impl Memory<'_> {
+    // The byte of state of row k.
+    // Kept: 6b: a column of the rows, which are faster in columns (docs/DECISIONS.md).
+    #[tactic(auto, using(crate::proofs::RowLaws::code_in_lem), unfolding(crate::specs::Rows::row_of))]
+    pub fn code(&self, k: usize) -> Code
+        requires { k < most_rows }
+        ensures { (result.0 ≡ code_in (row_bytes self.now k)) × (state_of result.0 ≡ (row_of (row_bytes self.now k)).state) × (result.0 < 256) }
+    {
+        let code = self.bytes[STATES + k];
+        Code(code)
+    }
+
     // The bytes of row k, gathered from the columns: its amount, its state, its fee and its remainder.
     // Kept: 3d, 4b: tried, and slower: 2,048 orders took 8.6 µs with the four parts put one by one, and take 4.5 µs.
     // Kept: 6b: a column of the rows, which are faster in columns (docs/DECISIONS.md).
