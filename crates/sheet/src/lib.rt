@@ -69,8 +69,8 @@ pub fn sheet(book: &[u8], table: &mut [SheetRow], totals: &mut Totals) -> Result
         return Err(Refusal::NoRoom);
     }
     let sums = add(&book, *totals).ok_or(Refusal::AboveCap)?;
-    fill(table, &book);
     *totals = sums;
+    fill(table, &book);
     Ok(n as u64)
 }
 
