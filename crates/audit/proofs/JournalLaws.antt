@@ -81,6 +81,11 @@ starts_within entry j = either_way (leb j (texts_of entry))
     (λ yes. let few = leb-true j (texts_of entry) yes in let there : j + (texts_of entry - j) ≡ texts_of entry = omega arith in rw there at (starts_later entry j (texts_of entry - j)))
     (λ no. let many = leb-false j (texts_of entry) no in let there : texts_of entry + (j - texts_of entry) ≡ j = omega arith in omega (arith, rw there at (all_behind entry (j - texts_of entry))))
 
+-- an entry has its first three bytes
+pub some_bytes : (entry : List ℕ) → 3 ≤ entry_length entry
+unfolding text_start
+some_bytes entry = omega (arith, starts_within entry 0)
+
 -- a whole entry has its numbers, its lengths and its texts
 module _ (entry : List ℕ) (fits : entry_fits entry ≡ true) where
   pub all_there : entry_length entry ≤ length entry

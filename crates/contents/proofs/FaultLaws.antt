@@ -51,11 +51,16 @@ back_unspaced front back shift h =
 pub bars_of : (line : List ℕ) (bars : ℕ) (r t : Bool) → bars ≡ cut_count 32 0x7C line → r ≡ between 7 20 bars → r ≡ t → between 8 21 (length (fields 0x7C line)) ≡ t
 bars_of line bars r t is said told = rw (← range_by_cut 32 0x7C line 7 20 (omega arith), ← is) (sym said ∙ told)
 
+-- a line that is both the front and the back is asked as one, whatever is said of the extra field
+pub whole_line : (line : List ℕ) (said : ExtraSaid) → fault_questions (field_of_two line line 0) said ≡ fault_questions (λ n. field n line) said
+unfolding fault_questions unspaced
+whole_line line said = refl
+
 -- a line's own extra field
-pub whole_line : (line : List ℕ) (said : ExtraSaid) → said ≡ said_of (field 12 line)
+pub whole_fault : (line : List ℕ) (said : ExtraSaid) → said ≡ said_of (field 12 line)
     → first_fault (fault_questions (field_of_two line line 0) said) ≡ fault_of line
 unfolding fault_of fault_questions unspaced
-whole_line line said e = rw e
+whole_fault line said e = rw e
 
 -- A fault's number is at most that of the last question.
 pub fault_known : (line : List ℕ) → fault_of line ≤ 10

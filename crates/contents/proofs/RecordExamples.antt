@@ -1,6 +1,7 @@
 -- Worked examples of a record line's shape, order and faults, each computed.
 -- Assumes nothing.
 use mathlib.Core.Path.{◌≡◌, refl}
+use mathlib.Core.Bool.{true, false}
 use mathlib.Core.List.{List, [], ◌∷◌, ◌++◌, map}
 use Prim.Native.Nat.{ℕ, ◌-◌}
 use Prim.Native.String.{String}
@@ -9,10 +10,14 @@ use Rattle.text.specs.Bytes.{digit}
 use Rattle.text.specs.Quoted.{bytes}
 use Rattle.text.specs.Number.{number, number_after}
 use Rattle.text.specs.Fields.{fields, onto}
+use Rattle.text.specs.Lines.{stray}
 use Rattle.text.specs.Utf8.{tail_octet}
 use Rattle.text.specs.Utf8Encoded.{encoded, encoded_all}
+use Rattle.money.specs.Money.{grosze_of}
+use Rattle.money.specs.Text.{text_of, together}
 use Rattle.epe.specs.Questions.{asked}
 use Rattle.contents.specs.Faults.{sized, postcode, extra, spaced, said_of, placed, housed, unspaced, fault_questions, fault_of}
+use Rattle.contents.specs.Contents.{shaped, order_of}
 
 -- The fields of an order without a fault, and the line that joins fields by bars.
 abbrev order : List (List ℕ)
@@ -34,6 +39,11 @@ fault_with n text = fault_of (joined (changed n text order))
 
 quoted : joined order ≡ bytes "2|000001|100.00|Kowalski|Jan|Krakow|30-001|Krakow|Dluga|5||||E-17|10.2020||||"
 quoted = refl
+
+-- 100.00 and no fault.
+read : order_of (joined order) ≡ record { amount = record { 0 = 10_000 }; fault = 0 }
+unfolding order_of grosze_of text_of together fault_of asked fault_questions sized postcode extra spaced said_of placed housed unspaced tail_octet fields onto number number_after digit
+read = refl
 
 -- Each fault by itself. The fifth is that of an order without town and street.
 each : fault_with 4 "" ∷ fault_with 5 "" ∷ fault_with 6 "" ∷ fault_with 7 "30001" ∷ fault_of (joined (changed 8 "" (changed 9 "" order)))
@@ -88,3 +98,19 @@ excused = refl
 field_20 : fault_of (joined order ++ bytes "| x ") ≡ 0
 unfolding fault_of asked fault_questions sized postcode extra spaced said_of placed housed unspaced tail_octet fields onto number number_after digit
 field_20 = refl
+
+-- The number of a record compares by value.
+numbers : map (λ text. shaped 19 1 (joined (changed 2 text order))) ("1" ∷ "000001" ∷ "0000001" ∷ "2" ∷ "" ∷ [])
+    ≡ true ∷ true ∷ false ∷ false ∷ false ∷ []
+unfolding shaped fields onto stray number number_after digit
+numbers = refl
+
+-- A field too few, one more as asked for, another mark, a stray LF.
+shapes : shaped 20 1 (joined order)
+    ∷ shaped 20 1 (joined order ++ bytes "| x ")
+    ∷ shaped 19 1 (joined (changed 1 "1" order))
+    ∷ shaped 19 1 (joined order ++ (0x0A ∷ []))
+    ∷ []
+    ≡ false ∷ true ∷ false ∷ false ∷ []
+unfolding shaped fields onto stray number number_after digit
+shapes = refl

@@ -73,7 +73,7 @@ pub struct Record<'a> {
 
 impl<'a> Record<'a> {
     // The order of a whole line.
-    #[tactic(auto, using(crate::proofs::FaultLaws::whole_line))]
+    #[tactic(auto, using(crate::proofs::FaultLaws::whole_fault))]
     pub fn of(line: &'a Line<'a>) -> Record<'a>
         ensures { first_fault (questions_of_two result.front.now.text.now result.back.now.text.now result.shift result.extra) ≡ fault_of line.now.text.now }
     {

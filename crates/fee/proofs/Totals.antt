@@ -11,11 +11,13 @@ use Rattle.std.specs.Prelude.{Option, Some, None, Ok, Err}
 use Rattle.money.specs.declared.Amount.{Amount}
 use Rattle.text.proofs.Branches.{and_left, and_right, both_yes, either_way}
 use Rattle.money.specs.Money.{amount, order_cap, is_order_amount, is_order_fee, WithinOrder}
-use Rattle.fee.specs.Fee.{rate_cap, is_rate, fee_of}
+use Rattle.fee.specs.Fee.{rate_cap, is_rate, fee_of, charged_by}
 use Rattle.fee.specs.Total.{total_of, makes, candidate, found_for, terms_of, amount_for, AnswersTotal}
+use Rattle.fee.specs.declared.Charge.{Charge}
 use Rattle.fee.specs.declared.Terms.{Terms}
 use Rattle.fee.specs.declared.refusal.Refusal.{Refusal}
 use Rattle.fee.specs.declared.refusal.Refusal.TheVariants.{FlatPart, Rate}
+use Rattle.fee.proofs.Charged.{charge_is}
 
 -- what an amount that makes a total is
 record Making (terms : Terms) (total grosze : ℕ) : Type 0 where
@@ -72,6 +74,17 @@ out_of_reach terms total far =
     either_way (makes terms total (candidate terms total))
     (λ does. absurd (false≢true (sym far ∙ in_reach terms total (candidate terms total) does)))
     (λ not. rw not refl)
+
+-- an amount that is charged at all is charged a fee within the cap
+fee_fits_holds : (terms : Terms) (grosze : ℕ) (charge : Charge) → Some charge ≡ charged_by terms grosze → is_order_fee (fee_of terms grosze) ≡ true
+unfolding charged_by
+fee_fits_holds terms grosze charge is =
+    either_way (is_order_fee (fee_of terms grosze)) (λ yes. yes) (λ no. let none = rw no at is in cc)
+
+pub fee_within : (terms : Terms) (grosze : ℕ) (charge : Charge) → Some charge ≡ charged_by terms grosze → WithinOrder charge.fee.0
+fee_within terms grosze charge is =
+    let within = leb-true (fee_of terms grosze) order_cap (fee_fits_holds terms grosze charge is) in
+    rw (charge_is terms grosze within charge is) within
 
 -- what is answered behind two questions, where that is no refusal
 behind_both : (t u : Bool) (first second : Refusal) (last answer : Option Amount) → cond t (cond u (Ok last) (Err second)) (Err first) ≡ Ok answer → last ≡ answer

@@ -48,6 +48,11 @@ stored_is_read (suc width) m at n =
       as_long = rest.as_long ∙ length-set m at (n % 256);
     }
 
+-- the lowest byte
+pub lowest_byte : (width : ℕ) (m : List ℕ) (at : ℕ) → get_or m at 0 < 256 → number_at (suc width) m at % 256 ≡ get_or m at 0
+unfolding number_at
+lowest_byte width m at byte = omega arith
+
 -- as many bytes as a number's width say a number below that power of 256
 number_low : (width : ℕ) (l : List ℕ) (p : ℕ) → ((j : ℕ) → get_or l j 0 < 256) → number_at width l p < 256 ^ width
 unfolding number_at

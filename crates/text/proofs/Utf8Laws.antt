@@ -131,3 +131,16 @@ pub row4_fits : (s : List ℕ) → row4 (get_or s 0 0) (get_or s 1 0) (get_or s 
 row4_fits s e =
     let r = row4_says (get_or s 0 0) (get_or s 1 0) (get_or s 2 0) (get_or s 3 0) e in
     omega (arith, stands_within s 3 (omega arith))
+
+-- so a character ends within the text that it starts in
+pub ends_within : (s : List ℕ) (i : ℕ) → i < length s → i + width_at s i ≤ length s
+ends_within s i h =
+    by_rows s i (λ n p. i + n ≤ length s) (λ e. omega arith)
+    (λ e. let r = row2_says (get_or s i 0) (get_or s (i + 1) 0) e in omega (arith, stands_within s (i + 1) (omega arith)))
+    (λ e. let r = row3_says (get_or s i 0) (get_or s (i + 1) 0) (get_or s (i + 2) 0) e in omega (arith, stands_within s (i + 2) (omega arith)))
+    (λ e. let r = row4_says (get_or s i 0) (get_or s (i + 1) 0) (get_or s (i + 2) 0) (get_or s (i + 3) 0) e in omega (arith, stands_within s (i + 3) (omega arith)))
+    (λ p. omega arith)
+
+-- and is at most four octets wide
+pub width_at_most_four : (s : List ℕ) (i : ℕ) → width_at s i ≤ 4
+width_at_most_four s i = by_rows s i (λ n p. n ≤ 4) (λ e. omega arith) (λ e. omega arith) (λ e. omega arith) (λ e. omega arith) (λ p. omega arith)

@@ -37,6 +37,13 @@ module _ (at : ℕ) (first second output : List ℕ) (fits : at + length first +
   all : at + length (first ++ second) ≡ at + length first + length second
   all = let l = length-append first second in omega arith
 
+  -- the second text put before the first
+  pub put_behind : put_at at first (put_at (at + length first) second output) ≡ put_at at (first ++ second) output
+  put_behind =
+      let next = at + length first in
+      rw (before_put next second output (omega arith) at (omega arith), from_put next second output (omega arith), all, append_assoc first second (drop (at + length first + length second) output))
+
+  -- and after it
   pub put_then : put_at (at + length first) second (put_at at first output) ≡ put_at at (first ++ second) output
   put_then =
       let next = at + length first in
