@@ -6,7 +6,7 @@ use mathlib.Core.List.{List, map}
 use Prim.Native.Nat.{ℕ, ◌+◌, ◌<◌, ◌≤◌}
 use borrow.Author.Tests.{le-leb, lt-leb}
 use lib.Dec.{ltb}
-use lib.ListN.{length, length-map}
+use lib.ListN.{length, replicate, length-map}
 use Rattle.fee.specs.declared.Terms.{Terms}
 use Rattle.std.specs.Prelude.{Option, Some, None, Result, Ok, Err, is_err}
 use Rattle.epe.specs.declared.refusal.Refusal.{Refusal}
@@ -74,6 +74,10 @@ pub cleared : (judged : Result AcceptedOrders Refusal) (kept : List ℕ) → is_
 unfolding kept_where
 cleared (Ok accepted) kept h = cc
 cleared (Err refusal) kept h = refl
+
+pub cleared_whole : (judged : Result AcceptedOrders Refusal) (kept : List ℕ) {table : List ℕ} → is_err judged ≡ true → length kept ≡ 2_048 → table ≡ replicate (length kept) 0
+    → table ≡ kept_where (judged_as judged) kept
+cleared_whole judged kept h long zeros = zeros ∙ ap (λ n. replicate n 0) long ∙ cleared judged kept h
 
 pub left : (judged : Result AcceptedOrders Refusal) (kept : List ℕ) → is_err judged ≡ false → kept ≡ kept_where (judged_as judged) kept
 unfolding kept_where

@@ -66,7 +66,7 @@ fn judge_tally(tally: Option<Tally>, count: u64, sum: u64) -> Result<Accepted, R
 
 // Clears the table that kept the orders of a refused file.
 // Kept: 6d: one number to an order, since a table of orders as they are takes all the caller's stack (`order_in`).
-#[tactic(auto, using(crate::proofs::TallyJudges::left))]
+#[tactic(auto, using(crate::proofs::TallyJudges::left, crate::proofs::TallyJudges::cleared_whole))]
 fn keep_accepted(judged: Result<Accepted, Refusal>, kept: &mut [u64])
     requires { length kept.old ≡ 2_048 }
     ensures { kept.new ≡ kept_where (judged_as judged) kept.old }
