@@ -11,6 +11,7 @@ use borrow.Rule.Slice.PartMut.{put_mid, Post-is}
 use lib.Dec.{eqb}
 use lib.ListN.{length, get_or, set, take, drop, replicate, length-set, length-drop, take-append-drop, get_or-append}
 use lib.Seq.{get_or-set_same, get_or-set_other, get_or-append-add, get_or-take, get_or-drop, drop-cons, drop-set-lt, length-take-le, take-suc, take-set-le}
+use Rattle.std.proofs.Common.{rules, Fits, w8}
 use Rattle.std.specs.Int.{w64, from_le_bytes, to_le_bytes}
 use Rattle.text.specs.Bytes.{same}
 use Rattle.text.proofs.Branches.{and_left, and_right, both_yes, both_ways}
@@ -109,6 +110,16 @@ module _ (width at : ℕ) (m part : List ℕ) (enough : at + width ≤ length m)
       let same : n ≡ number_at width m at =
       is ∙ eight_read before_zeros ∙ padded width 8 before_zeros 0 fits zeros_behind ∙ number_alike width before_zeros m 0 at byte_there in
       (same, omega (arith, same, number_low width m at bytes))
+
+  -- the same in two, for any bytes
+  pub read_as : (n : ℕ) → n ≡ from_le_bytes w64 before_zeros → ((j : ℕ) → Fits w8 (get_or m j 0)) → n ≡ number_at width m at
+  read_as n is bytes = (number_read (λ j. let byte = bytes j in search rules) n is).0
+
+  pub read_below : (n : ℕ) → n ≡ from_le_bytes w64 before_zeros → ((j : ℕ) → Fits w8 (get_or m j 0)) → n < 256 ^ width
+  read_below n is bytes = (number_read (λ j. let byte = bytes j in search rules) n is).1
+
+-- by which a number is read
+pub ruleset reading = (read_as, read_below)
 
 -- the low bytes of a number, as std gives them, and stored one after the other
 eight_low : (n : ℕ) → to_le_bytes w64 n ≡ bytes_of 8 n

@@ -3,6 +3,7 @@ ghost use Rattle.std.specs.Prelude.{◌≡◌, ◌+◌, ◌≤◌, ◌<◌, ◌^
 ghost use Rattle.memory.specs.Number.{number_at, with_number};
 
 // The number in the bytes from a place on.
+#[tactic(auto, using(crate::proofs::Numbers::reading))]
 pub fn read<const WIDTH: usize>(memory: &[u8], at: usize) -> u64
     requires { (at + WIDTH ≤ length memory.now) × (WIDTH ≤ 8) }
     ensures { (result ≡ number_at WIDTH memory.now at) × (result < 256 ^ WIDTH) }
