@@ -4,7 +4,10 @@ use mathlib.Core.Path.{◌≡◌, refl, ap, ◌∙◌}
 use mathlib.Core.Bool.{Bool, true, false, cond}
 use Prim.Native.Nat.{ℕ, ◌+◌, ◌-◌, ◌≤◌}
 use native.Mathlib.Omega.{arith}
+use Rattle.money.specs.Money.{sum_of, grosze_in}
 use Rattle.money.specs.declared.Money.{Money}
+use Rattle.money.specs.declared.Sum.{Sum}
+use Rattle.money.proofs.Sums.{grosze_of_sum}
 use Rattle.money.specs.declared.Money.TheVariants.{K, O}
 use Rattle.model.specs.Shipment.{Shipment, accepted, returned, is_paired, sum_over, worth, need, need_once_paired, free, held}
 use Rattle.model.specs.Sound.{shipment_sound}
@@ -73,3 +76,18 @@ module _ (s : Shipment) (sound : shipment_sound s ≡ true) (money : Money) {a r
 
 pub division_low : (s : Shipment) → shipment_sound s ≡ true → (money : Money) → {d : Division} → d ≡ division_of money s → DivisionWithin d
 division_low s sound money is = rw is (division_within_lem money s sound)
+
+-- as code reads what it divides
+module _ (s : Shipment) (money : Money) {d : Division} {a r n h : ℕ} {whole back : Sum} (is : d ≡ divided a r n h) (a_is : a ≡ grosze_in whole)
+    (whole_is : whole ≡ sum_of money (accepted money s)) (r_is : r ≡ grosze_in back) (back_is : back ≡ sum_of money (returned money s))
+    (n_is : n ≡ need_once_paired money s) (h_is : h ≡ held money s) (sound : shipment_sound s ≡ true) where
+  pub divides : d ≡ division_of money s
+  divides =
+      is
+      ∙ division_is s sound money (a_is ∙ ap grosze_in whole_is ∙ grosze_of_sum money _) (r_is ∙ ap grosze_in back_is ∙ grosze_of_sum money _) n_is h_is
+
+  pub divides_low : DivisionWithin d
+  divides_low = division_low s sound money divides
+
+-- by which code divides
+pub ruleset dividing = (divides, divides_low)

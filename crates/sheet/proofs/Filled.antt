@@ -13,7 +13,6 @@ use lib.Seq.{drop-drop}
 use Rattle.std.specs.Prelude.{Option, None, Result, Ok}
 use Rattle.std.specs.Result.{result_ok}
 use Rattle.epe.specs.Questions.{asked}
-use Rattle.model.specs.Shipment.{Shipment}
 use Rattle.model.specs.Book.{Book}
 use Rattle.memory.specs.Read.{book_in, sound_in, read_book}
 use Rattle.sheet.specs.declared.refusal.Refusal.{Refusal}
@@ -40,6 +39,11 @@ pub put_from : ℕ → List SheetRow → List SheetRow → List SheetRow
 put_from i [] table = table
 put_from i (row ∷ rows) table = put_from (suc i) rows (set table i row)
 
+-- the first row put, and then the others
+pub put_on : (row : SheetRow) (rows table : List SheetRow) (i : ℕ) → put_from (i + 1) rows (set table i row) ≡ put_from i (row ∷ rows) table
+unfolding put_from
+put_on row rows table i = rw add-one refl
+
 put_behind : (done rows table : List SheetRow) (i : ℕ) → length done ≡ i → length rows ≤ length table
     → put_from i rows (done ++ table) ≡ done ++ (rows ++ drop (length rows) table)
 unfolding put_from
@@ -63,14 +67,6 @@ module _ {book : Book} {start : List SheetRow} where
   pub filling_begun : length book ≤ length start → Filling book start book 0 start
   filling_begun enough = record { whole = refl; room = omega (arith, enough) }
 
-  pub filling_on : {left : Book} {i : ℕ} {table : List SheetRow} (s : Shipment) → Filling book start (s ∷ left) i table → {row : SheetRow} → row ≡ row_for s
-      → Filling book start left (i + 1) (set table i row)
-  unfolding put_from
-  filling_on {left} {i} {table} s going {row} is = record {
-    whole = rw (add-one, is) going.whole;
-    room = omega (arith, going.room, length-set table i row);
-  }
-
   pub filling_done : {i : ℕ} {table : List SheetRow} → Filling book start [] i table → length book ≤ length start
       → table ≡ map row_for book ++ drop (length book) start
   unfolding put_from
@@ -80,7 +76,7 @@ module _ {book : Book} {start : List SheetRow} where
       ∙ ap (λ n. map row_for book ++ drop n start) (long_rows book)
 
 -- by which a table is filled
-pub ruleset filling = (filling_begun, filling_on, filling_done)
+pub ruleset filling = (filling_begun, put_on, length-set, filling_done)
 
 -- what is asked of a sheet, in order, and what is then filled
 module _ (m : List ℕ) (table : List SheetRow) (totals : Totals) where

@@ -50,6 +50,7 @@ fn parts_for(shipment: &LentShipment) -> Parts
 }
 
 // What was accepted of a money in a shipment, divided by what its orders need and hold: each order needs its own worth, and holds it or not.
+#[tactic(auto, using(crate::proofs::Dividing::dividing))]
 fn division_for(shipment: &LentShipment, money: Money, needs: u64, holds: u64) -> Division
     requires { (needs ≡ need_once_paired money shipment.now) × (holds ≡ held money shipment.now) }
     ensures value { result ≡ division_of money shipment.now }
