@@ -20,7 +20,8 @@ use Rattle.acts.specs.Inner.Waiting.{SoundInWaiting}
 
 -- Some rows are left: it is still to look whether any is Faulty.
 pub record Looking (rows left : List Row) (bits : ℕ) : Type 0 where
-  pub sound : SoundInWaiting left
+  pub terms : Terms
+  pub sound : rows_sound terms Waiting left ≡ true
   pub faults : (ltb 0 bits || any_faulty left) ≡ any_faulty rows
 
 -- a bit is in what is joined where it is in either part
@@ -42,16 +43,17 @@ faulty_by_byte terms row code byte sound state_is =
 
 module _ {rows : List Row} where
   pub looking_begun : SoundInWaiting rows → Looking rows rows 0
-  looking_begun sound = record { sound = sound; faults = refl }
+  looking_begun sound = record { terms = sound.terms; sound = sound.is; faults = refl }
 
   pub looking_on : {row : Row} {left : List Row} {bits : ℕ} (code : ℕ) → Looking rows (row ∷ left) bits → state_of code ≡ row.state → code < 256
       → Looking rows left (bit_or bits code)
   unfolding rows_sound any_faulty
   looking_on {row} {left} {bits} code going state_is byte =
-      let terms = going.sound.terms in
-      let faulty = faulty_by_byte terms row code byte (and_left (row_sound terms Waiting row) (rows_sound terms Waiting left) going.sound.is) state_is in
+      let terms = going.terms in
+      let faulty = faulty_by_byte terms row code byte (and_left (row_sound terms Waiting row) (rows_sound terms Waiting left) going.sound) state_is in
       record {
-        sound = record { terms = terms; is = and_right (row_sound terms Waiting row) (rows_sound terms Waiting left) going.sound.is };
+        terms = terms;
+        sound = and_right (row_sound terms Waiting row) (rows_sound terms Waiting left) going.sound;
         faults = ap (λ t. t || any_faulty left) (some_join bits code ∙ ap (λ t. ltb 0 bits || t) (sym faulty))
             ∙ or_assoc (ltb 0 bits) (is_faulty row.state) (any_faulty left)
             ∙ going.faults;
