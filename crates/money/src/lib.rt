@@ -43,23 +43,8 @@ pub trait Grosze: Copy {
 
     ghost LEAST: { ℕ };
 
-    ghost ORDER_CAP: { ℕ } = { order_cap };
-
-    ghost SUM_CAP: { ℕ } = { sum_cap };
-
-    ghost TOTAL_CAP: { ℕ } = { total_cap };
-
     // The least that an order holds.
     const LEAST: u64;
-
-    // The most that an order holds.
-    const ORDER_CAP: u64;
-
-    // The most that a sum comes to.
-    const SUM_CAP: u64;
-
-    // The most that a total of the balance sheet comes to.
-    const TOTAL_CAP: u64;
 
     // So many grosze.
     fn from_grosze(grosze: u64) -> Self
@@ -68,6 +53,27 @@ pub trait Grosze: Copy {
     // Its grosze.
     fn grosze(self) -> u64
         ensures { result ≡ worth self };
+
+    // The most that an order holds, by an amount's cap where a money says nothing else.
+    fn order_cap() -> u64
+        ensures { result ≡ order_cap }
+    {
+        Amount::ORDER_CAP
+    }
+
+    // The most that a sum comes to, likewise.
+    fn sum_cap() -> u64
+        ensures { result ≡ sum_cap }
+    {
+        Amount::SUM_CAP
+    }
+
+    // The most that a total of the balance sheet comes to, likewise.
+    fn total_cap() -> u64
+        ensures { result ≡ total_cap }
+    {
+        Amount::TOTAL_CAP
+    }
 
     // The grosze as an order holds them, within the cap.
     fn order(grosze: u64) -> Self
@@ -97,28 +103,28 @@ pub trait Grosze: Copy {
     fn is_order(grosze: u64) -> bool
         ensures { result ≡ is_order LEAST grosze }
     {
-        (Self::LEAST..=Self::ORDER_CAP).contains(&grosze)
+        (Self::LEAST..=Self::order_cap()).contains(&grosze)
     }
 
     // Are the grosze a sum?
     fn is_sum(grosze: u64) -> bool
         ensures { result ≡ is_sum grosze }
     {
-        grosze <= Self::SUM_CAP
+        grosze <= Self::sum_cap()
     }
 
     // Are the grosze a transfer?
     fn is_transfer(grosze: u64) -> bool
         ensures { result ≡ is_transfer grosze }
     {
-        (1..=Self::SUM_CAP).contains(&grosze)
+        (1..=Self::sum_cap()).contains(&grosze)
     }
 
     // Are the grosze a total?
     fn is_total(grosze: u64) -> bool
         ensures { result ≡ is_total grosze }
     {
-        grosze <= Self::TOTAL_CAP
+        grosze <= Self::total_cap()
     }
 
     // The grosze less others, none where the others are more.
@@ -127,6 +133,24 @@ pub trait Grosze: Copy {
     {
         Self::from_grosze(self.grosze().saturating_sub(other.grosze()))
     }
+}
+
+// A money with its caps as constants.
+pub trait Caps: Grosze {
+    ghost ORDER_CAP: { ℕ } = { order_cap };
+
+    ghost SUM_CAP: { ℕ } = { sum_cap };
+
+    ghost TOTAL_CAP: { ℕ } = { total_cap };
+
+    // The most that an order holds.
+    const ORDER_CAP: u64;
+
+    // The most that a sum comes to.
+    const SUM_CAP: u64;
+
+    // The most that a total of the balance sheet comes to.
+    const TOTAL_CAP: u64;
 
     // "Both caps belong to the money": each money's are those of the definitions.
     ghost caps: { (ORDER_CAP ≡ order_cap) × (SUM_CAP ≡ sum_cap) × (TOTAL_CAP ≡ total_cap) };
@@ -141,15 +165,7 @@ impl Grosze for Amount {
 
     ghost LEAST = { 1 };
 
-    ghost caps = { (refl, refl, refl) };
-
     const LEAST: u64 = 1;
-
-    const ORDER_CAP: u64 = Amount::ORDER_CAP;
-
-    const SUM_CAP: u64 = Amount::SUM_CAP;
-
-    const TOTAL_CAP: u64 = Amount::TOTAL_CAP;
 
     fn from_grosze(grosze: u64) -> Amount {
         Amount(grosze)
@@ -169,10 +185,42 @@ impl Grosze for Fee {
 
     ghost LEAST = { 0 };
 
-    ghost caps = { (refl, refl, refl) };
-
     // Kept: 2d: the trait asks each money for its own least.
     const LEAST: u64 = 0;
+
+    fn order_cap() -> u64 {
+        <Fee as Caps>::ORDER_CAP
+    }
+
+    fn sum_cap() -> u64 {
+        <Fee as Caps>::SUM_CAP
+    }
+
+    fn total_cap() -> u64 {
+        <Fee as Caps>::TOTAL_CAP
+    }
+
+    fn from_grosze(grosze: u64) -> Fee {
+        Fee(grosze)
+    }
+
+    fn grosze(self) -> u64 {
+        self.0
+    }
+}
+
+impl Caps for Amount {
+    ghost caps = { (refl, refl, refl) };
+
+    const ORDER_CAP: u64 = Amount::ORDER_CAP;
+
+    const SUM_CAP: u64 = Amount::SUM_CAP;
+
+    const TOTAL_CAP: u64 = Amount::TOTAL_CAP;
+}
+
+impl Caps for Fee {
+    ghost caps = { (refl, refl, refl) };
 
     // Kept: 2d: the trait asks each money for its own caps.
     const ORDER_CAP: u64 = Fee::ORDER_CAP;
@@ -182,14 +230,6 @@ impl Grosze for Fee {
 
     // Kept: 2d: the trait asks each money for its own caps.
     const TOTAL_CAP: u64 = Fee::TOTAL_CAP;
-
-    fn from_grosze(grosze: u64) -> Fee {
-        Fee(grosze)
-    }
-
-    fn grosze(self) -> u64 {
-        self.0
-    }
 }
 
 impl Amount {
