@@ -8,7 +8,7 @@ use native.Mathlib.Omega.{arith}
 use lib.Dec.{leb}
 use lib.ListN.{length, drop, take, set, drop_of_length-le, length-append, length-drop}
 use lib.Seq.{drop-drop, length-take-le}
-use Rattle.text.proofs.Branches.{and_right}
+use Rattle.text.proofs.Branches.{and_left, and_right}
 use Rattle.model.specs.Calls.{Call}
 use Rattle.book.specs.Does.{Does}
 use Rattle.book.specs.Reply.{reply_of, Plays}
@@ -19,7 +19,7 @@ use Rattle.audit.specs.Replay.{all_replies, Replayed, Replayable}
 use Rattle.audit.proofs.Listing.{listed}
 
 -- a call that was made
-abbrev played_as : {memory memory' : List ℕ} {call : Call} {reply : Reply} → Plays memory call reply memory' → Made
+abbrev pub played_as : {memory memory' : List ℕ} {call : Call} {reply : Reply} → Plays memory call reply memory' → Made
 played_as {memory' = memory'} {call = call} played = record { call = call; answer = played.answer; memory = memory' }
 
 -- one more call behind those made
@@ -116,6 +116,9 @@ module _ {start journal : List ℕ} {table : List Reply} {made : List Made} {mem
     fits_here : (entry_fits entry && entries_fit (n - (i + 1)) rest) ≡ true
     unfolding rest entries_fit
     fits_here = rw entry_is (rw left at so_far.fits)
+
+    pub entry_left : entry_fits entry ≡ true
+    entry_left = and_left (entry_fits entry) (entries_fit (n - (i + 1)) rest) fits_here
 
     pub turns : {reply : Reply} {memory' : List ℕ} (played : Plays memory (call_in entry) reply memory')
         → SoFar start journal table (made ++ (played_as played ∷ [])) memory' (set answers i reply) (at + entry_length entry) (i + 1) n

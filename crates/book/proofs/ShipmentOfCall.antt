@@ -1,13 +1,14 @@
 -- Each call by an identifier acts on the first shipment of that identifier, and a transfer on the first of its title's name.
 -- Assumes nothing.
 use mathlib.Core.Path.{◌≡◌, refl, sym, subst, ◌∙◌}
-use mathlib.Core.Bool.{true, false}
-use mathlib.Core.List.{List}
+use mathlib.Core.Bool.{true, false, true≢false, false≢true}
+use mathlib.Core.List.{List, [], ◌∷◌}
 use Prim.Native.Nat.{ℕ}
 use Rattle.std.specs.Prelude.{Result, Ok, Err}
 use Rattle.std.specs.Result.{result_or}
+use Rattle.text.proofs.Branches.{either_way}
 use Rattle.money.specs.Money.{is_transfer}
-use Rattle.epe.specs.Questions.{Passed, Refused as No, first_no}
+use Rattle.epe.specs.Questions.{Question, Verdict, Passed, Refused as No, first_no, is_passed, asked}
 use Rattle.epe.specs.Name.{title_questions, title_of, title_verdict, title_said}
 use Rattle.epe.specs.declared.name.Title.{Title}
 use Rattle.epe.specs.declared.name.NoTitle.{NoTitle}
@@ -23,6 +24,21 @@ use Rattle.book.specs.Inner.Sought.{Seeks}
 pub seeks_called : (ident : Ident) (act : Act) → Seeks (called_in ident) (acted act) (On ident act)
 unfolding step shipment_in
 seeks_called ident act = record { called = is_called ident; by_head = λ head rows. refl; steps = λ book. refl; unread = refl }
+
+-- a verdict that passes
+pub passed_is : (verdict : Verdict) → is_passed verdict ≡ true → verdict ≡ Passed
+unfolding is_passed
+passed_is Passed h = refl
+passed_is (No number) h = absurd (false≢true h)
+
+-- a title has one question, of the number 11
+one_refused : (q : Question) → is_passed (first_no (q ∷ [])) ≡ false → first_no (q ∷ []) ≡ No q.number
+unfolding asked is_passed
+one_refused q h = either_way q.yes? (λ passed. let never = rw passed at h in absurd (true≢false never)) (λ refused. rw refused)
+
+pub refused_eleven : (title : List ℕ) → is_passed (first_no (title_questions title)) ≡ false → first_no (title_questions title) ≡ No 11
+unfolding title_questions
+refused_eleven title h = one_refused _ h
 
 -- what a title was read as, where another refusal stands for what is none
 pub untitled : {E : Type 0} (read : Result Title NoTitle) (other : E) {e : E} → Err e ≡ result_or read (Err other) → (title_verdict read ≡ No 11) × (e ≡ other)

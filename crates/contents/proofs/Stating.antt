@@ -1,6 +1,6 @@
 -- What a header states, read as its questions are asked: what there is of a count and a sum, and what the questions say of it.
 -- Assumes nothing.
-use mathlib.Core.Path.{◌≡◌}
+use mathlib.Core.Path.{◌≡◌, refl}
 use mathlib.Core.Bool.{true, false}
 use Prim.Native.Nat.{ℕ}
 use native.Mathlib.Omega.{arith}
@@ -30,5 +30,13 @@ no_sum sum r e z = rw (← e, z)
 pub some_sum : (sum : Amount) (r : Option Amount) → Some sum ≡ r → (sum.0 ≡ 0 → ⊥) → ltb 0 (grosze_of r) ≡ true
 unfolding grosze_of
 some_sum sum r e z = rw (← e) (lt-ltb 0 sum.0 (omega arith))
+
+-- and what is there is what the definitions say, which is 0 where nothing is
+pub count_is : (n : ℕ) (r : Option ℕ) → Some n ≡ r → n ≡ unwrap_or r 0
+count_is n r e = rw (← e) refl
+
+pub sum_is : (sum : Amount) (r : Option Amount) → Some sum ≡ r → sum.0 ≡ grosze_of r
+unfolding grosze_of
+sum_is sum r e = rw (← e) refl
 
 pub ruleset stating = (not_there, is_there, no_orders, some_orders, no_sum, some_sum)

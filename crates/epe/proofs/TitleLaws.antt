@@ -12,7 +12,7 @@ use lib.Seq.{take-append-add, drop-append-add}
 use Rattle.text.specs.Bytes.{same}
 use Rattle.text.specs.Quoted.{bytes}
 use Rattle.text.specs.Fields.{fields, onto, cut_count}
-use Rattle.text.proofs.Branches.{and_left, and_right, cond_either, either_way}
+use Rattle.text.proofs.Branches.{and_left, and_right, second_no, cond_either, either_way}
 use Rattle.text.proofs.FieldsByCuts.{count_of_fields}
 use Rattle.text.proofs.Same.{same_equal}
 use Rattle.std.specs.Prelude.{Option, Some, None, is_some, Result, Ok, Err}
@@ -353,3 +353,21 @@ module _ (title : List ℕ) {name date : List ℕ} (dated : Dated name date (tit
   pub said_is : {one : Money} {parts : Name} → one ≡ unwrap_or money O → parts ≡ dated_name name date → ◌≡◌ {A = Title} (record { name = parts; money = one }) (title_of title)
   unfolding title_of
   said_is is are = rw (is, ending, ends_in (title_ending title), are, same_name dated)
+
+-- so it is none where its ending names no money or its name is refused, and one where neither is so
+module _ (title : List ℕ) where
+  pub no_money : None ≡ ending_money (title_ending title) → Refused 11 ≡ first_no (title_questions title)
+  unfolding title_questions
+  no_money none =
+      let nowhere : is_ending (title_ending title) ≡ false = sym (ends (title_ending title)) ∙ ap is_some (sym none) in
+      sym (asked_no 11 _ _ _ (rw nowhere (second_no (is_passed (first_no (name_questions (title_name title)))) false refl)))
+
+  module _ {name date : List ℕ} (dated : Dated name date (title_name title)) where
+    pub no_name : (n : ℕ) → Refused n ≡ first_no (dated_questions name date) → Refused 11 ≡ first_no (title_questions title)
+    unfolding is_passed
+    no_name n refused = no_title title dated refl refused refl refl
+
+    pub title_is : (money : Money) (parts : Name) → Some money ≡ ending_money (title_ending title) → Passed ≡ first_no (dated_questions name date)
+        → parts ≡ dated_name name date → (Passed ≡ first_no (title_questions title)) × (record { name = parts; money = money } ≡ title_of title)
+    unfolding is_passed
+    title_is money parts named passed is = (a_title title dated named passed refl refl, said_is title dated named refl is)

@@ -13,6 +13,7 @@ use lib.Seq.{drop-drop}
 use Rattle.std.specs.Prelude.{Option, None, Result, Ok}
 use Rattle.std.specs.Result.{result_ok}
 use Rattle.epe.specs.Questions.{asked}
+use Rattle.model.specs.Shipment.{Shipment}
 use Rattle.model.specs.Book.{Book}
 use Rattle.memory.specs.Read.{book_in, sound_in, read_book}
 use Rattle.sheet.specs.declared.refusal.Refusal.{Refusal}
@@ -66,6 +67,13 @@ long_rows (s ∷ book) = ap suc (long_rows book)
 module _ {book : Book} {start : List SheetRow} where
   pub filling_begun : length book ≤ length start → Filling book start book 0 start
   filling_begun enough = record { whole = refl; room = omega (arith, enough) }
+
+  pub filling_on : {left : Book} {i : ℕ} {table : List SheetRow} (s : Shipment) → Filling book start (s ∷ left) i table → {row : SheetRow} → row ≡ row_for s
+      → Filling book start left (i + 1) (set table i row)
+  filling_on {left} {i} {table} s going {row} is = record {
+    whole = rw is (put_on (row_for s) (map row_for left) table i ∙ going.whole);
+    room = omega (arith, going.room, length-set table i row);
+  }
 
   pub filling_done : {i : ℕ} {table : List SheetRow} → Filling book start [] i table → length book ≤ length start
       → table ≡ map row_for book ++ drop (length book) start

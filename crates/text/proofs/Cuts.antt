@@ -49,6 +49,13 @@ module _ (separator : ℕ) (s table : List ℕ) (i n : ℕ) (noted : Noted separ
       let e : n ≡ length table = omega (arith, noted.fits) in
       rw (← e) (take_at (take n table) rest n (length-take-le n table noted.fits))
 
+  -- a full table keeps what it holds, whatever comes
+  pub noted_full : length table ≤ n → Noted separator s table (i + 1) n
+  noted_full k = record {
+    fits = noted.fits;
+    whole = full (cuts_from separator (i + 1) (drop (i + 1) s)) k ∙ sym (full (cuts_from separator i (drop i s)) k) ∙ noted.whole;
+  }
+
   -- where nothing is left to note, the number is told by what is noted
   told : take n table ≡ take (length table) (cuts_from separator 0 s)
       → (n ≡ cut_count (length table) separator s) × (take n table ≡ take (length table) (cuts_from separator 0 s))
@@ -56,8 +63,8 @@ module _ (separator : ℕ) (s table : List ℕ) (i n : ℕ) (noted : Noted separ
   told same = (sym (length-take-le n table noted.fits) ∙ ap length same ∙ length-take (length table) (cuts_from separator 0 s), same)
 
   -- the table is full
-  pub noted_full : length table ≤ n → (n ≡ cut_count (length table) separator s) × (take n table ≡ take (length table) (cuts_from separator 0 s))
-  noted_full k = told (sym (full (cuts_from separator i (drop i s)) k) ∙ noted.whole)
+  pub noted_to_the_brim : length table ≤ n → (n ≡ cut_count (length table) separator s) × (take n table ≡ take (length table) (cuts_from separator 0 s))
+  noted_to_the_brim k = told (sym (full (cuts_from separator i (drop i s)) k) ∙ noted.whole)
 
   -- the text is at its end
   pub noted_all : length s ≤ i → (n ≡ cut_count (length table) separator s) × (take n table ≡ take (length table) (cuts_from separator 0 s))
